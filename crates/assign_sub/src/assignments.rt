@@ -1,4 +1,4 @@
-//! What a hub set costs, with the route of each commodity.
+//! The cost of a hub set, with the route of each commodity.
 
 ghost use Rattle.std.specs.Prelude.{◌≡◌, ◌<◌, ◌≤◌, [], None, length, slice_index, IfOk, pos};
 ghost use Rattle.hub_spec.specs.Limits.{most_cost};
@@ -14,7 +14,7 @@ use leg_duals::{FirstLegs, SetLegs};
 use std::alloc::{AllocError, Global};
 use unit_duals::Hops;
 
-/// What a hub set costs, in 10^-12, and for each commodity in order the first and the last hub of its route.
+/// The cost of a hub set, in 10^-12, and for each commodity in order the first and last hub of its route.
 #[derive(Drop)]
 pub struct Assignment {
     pub cost: i128,
@@ -29,8 +29,8 @@ pub(crate) struct PricedRoute {
     pub cost: u128,
 }
 
-/// The cost of the hub set, and the least route of each commodity: of those that cost the same the one with the
-/// smallest first hub, and then the smallest last hub.
+/// The cost of the hub set, and the least route of each commodity. Ties go to the smallest first hub, then to the
+/// smallest last hub.
 pub fn assign(alloc: Global, instance: &Instance, set: &HubSet) -> Result<Assignment, AllocError>
     requires { IsHubSet instance.now set.now }
     ensures routes { IfOk result (λ a. AreLeastRoutes instance.now set.now a.routes.items) }

@@ -1,4 +1,4 @@
-//! What a hub set costs where the length of routes is limited.
+//! The cost of a hub set where the length of routes is limited.
 
 ghost use Rattle.std.specs.Prelude.{◌≡◌, ◌<◌, ◌≤◌, IfOk, pos};
 ghost use Rattle.hub_spec.specs.Limits.{most_cost};

@@ -1,4 +1,4 @@
-//! Whether a set of candidates has a route for each commodity.
+//! Feasibility of a candidate set: whether every commodity has a route.
 
 ghost use Rattle.std.specs.Prelude.{◌≡◌};
 ghost use Rattle.hub_spec.specs.Plans.{IsCandidateSet};
@@ -6,8 +6,8 @@ ghost use Rattle.hub_spec.specs.Lacking.{lacking};
 
 use hub_model::{HubSet, Instance};
 
-/// The first commodity that has no route through the hubs of the set, if there is one: the node that it comes from and
-/// the one that it goes to. A set that lacks none is a hub set. It takes no memory.
+/// Origin and destination of the first commodity that has no allowed route through the set, if there is one. Otherwise
+/// the set is a hub set. It allocates nothing.
 pub fn lacking(instance: &Instance, set: &HubSet) -> Option<(u32, u32)>
     requires { IsCandidateSet instance.now set.now }
     ensures { result ≡ lacking instance.now set.now }

@@ -1,4 +1,4 @@
-//! What a hub set costs, without memory.
+//! The cost of a hub set, without allocation.
 
 ghost use Rattle.std.specs.Prelude.{◌≡◌, ◌+◌, ◌*◌, ◌<◌, ◌≤◌, None, length};
 ghost use Rattle.hub_spec.specs.Limits.{most_cost};
@@ -14,7 +14,7 @@ use hub_model::{HubSet, Instance, signed};
 /// The most hubs that there may be: as many as nodes.
 const MOST_HUBS: usize = 200;
 
-/// The least cost of a plan with just these hubs, in 10^-12. It takes no memory.
+/// The least cost of a plan with exactly these hubs, in 10^-12. It allocates nothing.
 pub fn set_cost(instance: &Instance, set: &HubSet) -> i128
     requires { IsHubSet instance.now set.now }
     ensures value { IsSetCost instance.now set.now (natural result) }
@@ -23,7 +23,7 @@ pub fn set_cost(instance: &Instance, set: &HubSet) -> i128
     signed(cost_of_set(instance, set.members()))
 }
 
-/// The same of these hubs, as a number that can't be below 0.
+/// The least cost of a plan with exactly these hubs, in 10^-12, unsigned. It allocates nothing.
 pub fn cost_of_set(instance: &Instance, hubs: &[u32]) -> u128
     requires { IsHubSet instance.now hubs.now }
     ensures value { IsSetCost instance.now hubs.now result }

@@ -1,4 +1,4 @@
-//! The search that begins again, with cuts that are given and hubs that are tried.
+//! The search with a warm start: imported cuts, and hubs that are tried first.
 
 ghost use Rattle.std.specs.Prelude.{◌≡◌, ℕ, ◌≤◌, ◌<◌, ◌+◌, ◌^◌, [], ◌∷◌, length, All, IsTrue, IfOk, OnOk};
 ghost use Rattle.std.specs.List.Sorted.{IsStrictlyIncreasing};
@@ -25,20 +25,20 @@ use search_core::{Start, Task};
 use search_steps::{Progress, Rule, Separator, begin, number_of, separate};
 use std::alloc::{AllocError, Global};
 
-/// What the rule of the search, which serves the instance, finds that begins with these cuts beside its own, and tries
-/// these hubs first: a wanted plan with its cost, a bound that no wanted plan costs less than, and the cuts and the tree
-/// that show it. The imported cuts have the numbers after those with which the rule begins, in their order, and keep them.
-/// The hubs are separated then, if they may be hubs of a wanted plan and have no cut yet; they are the first
-/// incumbent where they cost less than that of the rule. So the plan costs at most what either does.
+/// Branch and bound by the rule with a warm start. The finding has a wanted plan with its cost, a lower bound, and the
+/// cuts and the tree that prove it.
 ///
-/// `nodes` is the most nodes of the tree, the root among them; with `None` they are not limited. All candidates together
-/// are feasible for each commodity.
+/// The imported cuts are numbered after those with which the rule begins, in their order. The hubs are separated next,
+/// if they are a wanted hub set without a cut. They are the first incumbent where they cost less than the rule's. So
+/// the plan costs at most what either of the two costs.
 ///
-/// Only where two nodes more are not allowed the search stops, and then the bound is below the cost. Else both are equal
-/// and the plan is optimal. The finding is the same for every separator of the same kind of cuts.
+/// `nodes` is the most nodes of the tree, the root included, or `None` for no limit. All candidates together must be
+/// feasible for every commodity. The search stops early only where two more nodes pass the limit; then the bound is
+/// below the cost. Otherwise both are equal and the plan is optimal. The finding is the same for every separator of the
+/// same kind of cuts.
 ///
-/// The answer is `AllocError` where memory runs out, and for a search that would have more cuts or tree lines than a
-/// certificate's text can have, 67,108,864 and 268,435,456.
+/// `AllocError` means that memory ran out, or that a limit of certificates was reached: 67,108,864 cuts or 268,435,456
+/// tree lines.
 pub fn search_from<R: Rule, S: Separator>(
     alloc: Global,
     rule: &R,

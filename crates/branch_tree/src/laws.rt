@@ -1,25 +1,25 @@
-//! What holds of what a search finds.
+//! Laws of the finding of a search.
 
 ghost use Rattle.branch_tree.specs.Findings.{SearchIsProved, AgainIsProved, UnlimitedIsFirst, WithoutCoreCuts};
 
-/// What the rule finds is proved by its certificate, which is within the ranges of a certificate's text, where all
-/// candidates together are feasible for each commodity.
+/// The certificate of a finding proves it, and is within the ranges of a certificate's text. All candidates together
+/// must be feasible for every commodity.
 pub fn search_is_proved()
     ensures { SearchIsProved }
 {}
 
-/// So is what it finds that begins again.
+/// So does the certificate of a search with a warm start.
 pub fn again_is_proved()
     ensures { AgainIsProved }
 {}
 
-/// Where no length of routes is limited and any number of hubs will do, the tree has only lines that the first version of
-/// a certificate spells.
+/// With neither a length limit nor a wanted number of hubs, the tree has only lines of the first version of
+/// certificates.
 pub fn unlimited_is_first()
     ensures { UnlimitedIsFirst }
 {}
 
-/// What is found without Pareto-optimal cuts is what the search's definition has as the rule.
+/// Without Pareto-optimal cuts, the finding is that of the rule in the search's definition.
 pub fn without_core_cuts()
     ensures { WithoutCoreCuts }
 {}

@@ -1,4 +1,4 @@
-//! The lines that a walk adds.
+//! The tree lines that the search adds.
 
 ghost use Rattle.std.specs.Prelude.{◌≡◌, ◌≤◌, ◌+◌, OnOk};
 ghost use Rattle.hub_spec.specs.Limits.{most_tree_lines};

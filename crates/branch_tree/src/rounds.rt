@@ -1,4 +1,4 @@
-//! The rounds of a node: advice is taken, and a hub set is separated by it.
+//! The rounds of a node: each solves the master and separates a hub set by its point.
 
 ghost use Rattle.std.specs.Prelude.{◌≡◌, length, IfOk};
 ghost use Rattle.hub_spec.specs.Trees.{IsBranch};

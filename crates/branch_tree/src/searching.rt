@@ -20,16 +20,17 @@ use search_core::Task;
 use search_steps::{Progress, Rule, Separator, begin, finish};
 use std::alloc::{AllocError, Global};
 
-/// What the rule of the search, which serves the instance, finds: a wanted plan with its cost, a bound that no wanted
-/// plan costs less than, and the cuts and the tree that show it. `nodes` is the most nodes of the tree, the root among
-/// them; with `None` they are not limited. All candidates together are feasible for each commodity.
+/// Branch and bound by the rule. The finding has a wanted plan with its cost, a lower bound, and the cuts and the tree
+/// that prove it.
 ///
-/// The plan costs at most what all candidates do, or where a number of hubs is wanted as many of the least candidates. Only
-/// where two nodes more are not allowed the search stops, and then the bound is below the cost. Else both are equal and the
-/// plan is optimal. The finding is the same for every separator of the same kind of cuts.
+/// `nodes` is the most nodes of the tree, the root included, or `None` for no limit. All candidates together must be
+/// feasible for every commodity. The plan costs at most as much as all candidates as hubs, or, for exactly p hubs, as
+/// the p least candidates. The search stops early only where two more nodes pass the limit; then the bound is below the
+/// cost. Otherwise both are equal and the plan is optimal. The finding is the same for every separator of the same kind
+/// of cuts.
 ///
-/// The answer is `AllocError` where memory runs out, and for a search that would have more cuts or tree lines than a
-/// certificate's text can have, 67,108,864 and 268,435,456.
+/// `AllocError` means that memory ran out, or that a limit of certificates was reached: 67,108,864 cuts or 268,435,456
+/// tree lines.
 pub fn search<R: Rule, S: Separator>(
     alloc: Global,
     rule: &R,

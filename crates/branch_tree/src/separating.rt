@@ -1,4 +1,4 @@
-//! The separation of a hub set in a walk.
+//! The separation of a hub set during the search.
 
 ghost use Rattle.std.specs.Prelude.{◌≡◌, OnOk};
 ghost use Rattle.hub_spec.specs.Plans.{IsHubSet};

@@ -1,4 +1,4 @@
-//! A walk over the tree: what it is to do, by which rule, and what it has.
+//! A depth-first walk over the tree: its task, its rule, and its state.
 
 use search_core::Task;
 use search_steps::Progress;

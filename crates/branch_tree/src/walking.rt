@@ -1,4 +1,4 @@
-//! The walk over the tree, the open child of a branch first.
+//! The depth-first walk over the tree, the open child of a branch first.
 
 ghost use Rattle.std.specs.Prelude.{◌≡◌, ◌≤◌, ◌<◌, length, map, pos, slice_index_or, OnOk};
 ghost use Rattle.hub_spec.specs.Trees.{IsBranch, HasRoom};

@@ -1,4 +1,4 @@
-//! What weights say of a branch.
+//! Bounds and fixings of a branch by its weights.
 
 ghost use Rattle.std.specs.Prelude.{◌≡◌, false, length, IfOk};
 ghost use Rattle.hub_spec.specs.Trees.{IsBranch, HasRoom};

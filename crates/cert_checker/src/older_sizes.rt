@@ -13,8 +13,8 @@ use std::alloc::{AllocError, Global};
 /// The line of a certificate that tells its size, counted from 1.
 const SIZE_LINE: u64 = 2;
 
-/// What is said of the bytes of an older certificate for the instance, of which the text and the size line alone are tried;
-/// marks are passed over. The only error is want of memory.
+/// Reads an older certificate for the instance. It tests the text, its length and its size line, and nothing else;
+/// marks are ignored. It fails only where memory runs out.
 pub fn read_sized(alloc: Global, instance: &Instance, bytes: &[u8]) -> Result<Older, AllocError>
     ensures { IfOk result (λ said. IsSized instance.now bytes.now (older_of said)) }
 {

@@ -1,4 +1,4 @@
-// A line with a list that was begun.
+//! A line with a list that was begun.
 ghost use Rattle.std.specs.Prelude.{◌≡◌, [], IfOk};
 ghost use Rattle.hub_spec.specs.Ranges.{IsShort};
 

@@ -1,4 +1,4 @@
-// The mark of the last cut, while more of the cut may come.
+//! The mark of the last cut, while more of the cut may come.
 ghost use Rattle.std.specs.Prelude.{◌≡◌, ◌++◌, IfOk};
 
 use cut_model::{DualProof, Mark};

@@ -11,9 +11,9 @@ use cut_model::{Mark, StatedCut};
 use hub_model::{Plan, TreeLine};
 use std::marker::Model;
 
-/// A certificate within the ranges of the grammar: a plan and its cost, and cuts with a tree that are to show that no plan
-/// costs less than the bound. In the third version a cut may have a mark, which is to show that it is a Pareto-optimal
-/// cut. Whether they do is for a checker to say.
+/// A certificate within the ranges of the grammar: a plan with its cost, and cuts with a tree that claim a lower bound
+/// on every plan's cost. In the third version a cut may have a mark, which claims that the cut is Pareto-optimal. A
+/// checker tests these claims.
 ///
 /// Costs are in 10^-12, and nodes count from 0. A tree is its lines in preorder, the open child first.
 #[derive(Drop)]
@@ -42,7 +42,7 @@ impl Model for Certificate {
 }
 
 impl Certificate {
-    /// The certificate of these parts, which are taken as they are.
+    /// The certificate of these parts, taken without a copy.
     pub fn new(
         heading: Heading,
         plan: Plan,
@@ -92,14 +92,14 @@ impl Certificate {
         self.heading.candidates
     }
 
-    /// The cost of the plan.
+    /// The cost of the plan, in 10^-12.
     pub fn cost(&self) -> u128
         ensures { result ≡ self.now.proof.cost }
     {
         self.heading.cost
     }
 
-    /// The bound on the cost of each plan.
+    /// The lower bound on the cost of every plan, in 10^-12.
     pub fn bound(&self) -> u128
         ensures { result ≡ self.now.proof.bound }
     {
@@ -121,7 +121,7 @@ impl Certificate {
         self.plan.hubs()
     }
 
-    /// The first and the last hub of each commodity's route, in the order of commodities.
+    /// The first and last hub of each commodity's route, in the order of commodities.
     pub fn routes(&self) -> &[(u32, u32)]
         ensures value { result.now ≡ self.now.proof.plan.routes }
         ensures in_range { IsStatedInRange self.now }
@@ -137,7 +137,7 @@ impl Certificate {
         &self.cuts
     }
 
-    /// Of each cut the mark, if it has one.
+    /// The mark of each cut, if it has one.
     pub fn marks(&self) -> &[Option<Mark>]
         ensures value { result.now ≡ self.now.marks }
         ensures in_range { IsStatedInRange self.now }
@@ -145,8 +145,8 @@ impl Certificate {
         &self.marks
     }
 
-    /// The cuts, and the hubs of the plan, ascending, in place of the certificate: what a search may begin again with.
-    /// The marks are given up.
+    /// The cuts, and the hubs of the plan, ascending: a warm start for a search. It consumes the certificate and drops
+    /// the marks.
     pub fn into_start(self) -> (Vec<StatedCut>, Vec<u32>)
         ensures cuts { result.0.items ≡ self.proof.cuts }
         ensures hubs { result.1.items ≡ self.proof.plan.hubs }

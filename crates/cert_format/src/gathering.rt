@@ -1,4 +1,4 @@
-// A certificate in the making, item by item.
+//! A certificate in the making, item by item.
 ghost use Rattle.std.specs.Prelude.{◌≡◌, ◌<◌, ◌≤◌, ◌^◌, replicate, IfOk};
 ghost use Rattle.cert_spec.specs.Stated.{Stated, IsStatedInRange};
 ghost use Rattle.hub_spec.specs.Limits.{most_nodes};

@@ -1,9 +1,9 @@
-//! What the first lines of a certificate's text say.
+//! The first lines of a certificate's text.
 
 use cert_scan::Version;
 
-/// What the first lines of a certificate's text say: the version, the numbers of nodes and of candidates, the cost of
-/// the plan and the bound on the cost of each plan, both in 10^-12.
+/// The contents of the first lines of a certificate's text: version, numbers of nodes and candidates, cost of the plan,
+/// and lower bound. Cost and bound are in 10^-12.
 #[derive(Clone, Copy)]
 pub struct Heading {
     pub version: Version,

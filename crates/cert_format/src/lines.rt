@@ -1,4 +1,4 @@
-// The lines of a certificate put through a buffer.
+//! The lines of a certificate put through a buffer.
 ghost use Rattle.std.specs.Prelude.{◌≡◌, ◌+◌, ◌≤◌, ℕ, flat_map, All};
 ghost use Rattle.hub_spec.specs.Problem.{commodity_at};
 ghost use Rattle.hub_spec.specs.Trees.{leaf_of};
@@ -65,8 +65,8 @@ pub(crate) fn put_route<K: Sink>(
     put_line(b"route", &[i, j, k, m], buffer, sink)
 }
 
-/// Puts the line that begins the cut of this number, counted from 1, and of this part, which is not marked. The first
-/// version says no part.
+/// Puts the first line of an unmarked cut, with its number, counted from 1, and its part. The first version has no
+/// parts.
 pub fn put_cut<K: Sink>(
     version: Version,
     x: u64,
@@ -88,8 +88,8 @@ pub fn put_cut<K: Sink>(
     }
 }
 
-/// Puts the line of the dual of a run of so many commodities from node i, the first of which goes to node j: its price
-/// `a`, and some nodes with their values. In the first version each run is of one commodity.
+/// Puts the line of the dual of a run of commodities from node `i`, the first of which goes to node `j`. It has the
+/// price `a`, and some nodes with their values. In the first version each run is one commodity.
 pub fn put_dual<K: Sink>(
     i: u32,
     j: u32,

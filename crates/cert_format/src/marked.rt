@@ -1,4 +1,4 @@
-// The lines of a marked cut put through a buffer.
+//! The lines of a marked cut put through a buffer.
 ghost use Rattle.std.specs.Prelude.{◌≡◌, ◌≤◌, ◌∷◌, length, flat_map};
 ghost use Rattle.cert_spec.specs.Lines.{says_marked, says_proof};
 ghost use Rattle.cert_spec.specs.Text.{proved_items};
@@ -29,8 +29,8 @@ pub(crate) fn put_marked<K: Sink>(
     put_proved_duals(n, cut, mark.proofs(), buffer, sink)
 }
 
-/// Puts the line that begins the marked cut of this number, counted from 1, of this part and with these hubs. Only a text
-/// of the third version has marked cuts; of such a cut the line of each dual is followed by that of its proof.
+/// Puts the first line of a marked cut, with its number, counted from 1, its part, and its hubs. Only the third version
+/// has marked cuts. In such a cut each dual line is followed by the line of its proof.
 pub fn put_marked_cut<K: Sink>(
     x: u64,
     part: u32,
@@ -67,7 +67,7 @@ fn put_proved_duals<K: Sink>(
     Ok(())
 }
 
-/// Puts the line of a proof, which is to follow that of its dual.
+/// Puts the line of a proof, which follows that of its dual.
 pub fn put_proof<K: Sink>(
     proof: &DualProof,
     buffer: &mut Buffer,

@@ -13,7 +13,7 @@ use thiserror::Error;
 /// Why bytes were not read as a certificate. Lines count from 1.
 #[derive(Clone, Copy, Debug, PartialEq, Eq, Error)]
 pub enum CertFault {
-    /// A line that stands there whole is not as wanted, or something stands after the last line.
+    /// A whole line that does not fit the grammar there, or anything after the last line.
     #[error("line {line} is not as wanted")]
     BadLine { line: u64 },
     /// The text ends before this line ends.
@@ -31,9 +31,10 @@ impl From<AllocError> for CertFault {
     }
 }
 
-/// Reads the text of a certificate: a certificate comes exactly where all of the bytes spell it, want of memory aside.
+/// Reads the text of a certificate. The result is a certificate exactly where the bytes spell one, unless memory runs
+/// out.
 ///
-/// No memory is taken for what the text only announces.
+/// Nothing is allocated for what the text only announces.
 pub fn read_cert(alloc: Global, bytes: &[u8]) -> Result<Certificate, CertFault>
     ensures spells { IfOk result (Spells bytes.now) }
     ensures fault { IfErr result (ToldFault bytes.now) }

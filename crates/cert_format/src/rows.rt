@@ -1,4 +1,4 @@
-// The lines of a cut's duals, origin by origin.
+//! The lines of a cut's duals, origin by origin.
 ghost use Rattle.std.specs.Prelude.{◌≡◌, ◌+◌, ◌*◌, ◌≤◌, ◌<◌, ◌↔◌, length, slice_index_or, IsTrue};
 ghost use Rattle.hub_spec.specs.Limits.{most_nodes};
 ghost use Rattle.cert_spec.specs.Text.{dual_items};
@@ -12,7 +12,7 @@ use cut_model::{StatedCut, StatedDual};
 use hub_io::{Buffer, Failed, Sink};
 use std::marker::Model;
 
-/// The duals of a cut of the commodities from one node.
+/// The duals of a cut for the commodities from one origin.
 #[derive(Drop)]
 pub struct DualRow<'a> {
     cut: &'a StatedCut,
@@ -33,7 +33,7 @@ impl<'a> Model for DualRow<'a> {
 }
 
 impl<'a> DualRow<'a> {
-    /// The duals of the commodities from node i, of n.
+    /// The duals of the commodities from node `i`, of `n` nodes.
     pub fn of(cut: &'a StatedCut, n: u32, i: u32) -> DualRow<'a>
         requires few { n ≤ most_nodes }
         requires whole { length cut.now.duals ≡ n * n }
@@ -48,14 +48,14 @@ impl<'a> DualRow<'a> {
         }
     }
 
-    /// How many they are.
+    /// The number of duals.
     pub fn len(&self) -> u32
         ensures { result ≡ length self.now }
     {
         self.many
     }
 
-    /// The dual at this place.
+    /// The dual of the commodity to node `j`.
     pub fn dual(&self, j: u32) -> StatedDual<'a>
         requires { j < length self.now }
         ensures { result ≡ slice_index_or self.now j no_dual }
@@ -118,7 +118,7 @@ fn put_row<K: Sink>(
     Ok(())
 }
 
-/// How many duals of the row, from place j on, are one line: from the second version on all that are equal.
+/// How many duals of the row, from index `j` on, are one line: from the second version on, the run of equal duals.
 pub fn run_at(version: Version, row: &DualRow<'_>, j: u32) -> u32
     requires { j < length row.now }
     ensures { IsRunAt (version_number version) row.now j result }

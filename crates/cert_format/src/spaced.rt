@@ -1,4 +1,4 @@
-// The words of a line put through a buffer.
+//! The words of a line put through a buffer.
 ghost use Rattle.std.specs.Prelude.{◌∷◌, [], flat_map};
 ghost use Rattle.hub_io.specs.Outside.{PutsThrough};
 ghost use Rattle.cert_format.specs.Spaced.{spaced, words_text, words_line};

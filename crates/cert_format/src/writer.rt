@@ -1,4 +1,4 @@
-// A certificate's text put part by part.
+//! A certificate's text put part by part.
 ghost use Rattle.std.specs.Prelude.{◌≡◌, ◌+◌, ◌*◌, ◌≤◌, ◌<◌, ◌^◌, ℕ, [], ◌∷◌, length, map, zip, All, None};
 ghost use Rattle.hub_spec.specs.Limits.{most_nodes};
 ghost use Rattle.hub_spec.specs.Problem.{commodities};
@@ -20,7 +20,7 @@ use cut_model::{Mark, StatedCut};
 use hub_io::{Buffer, Failed, Sink};
 use hub_model::{Plan, TreeLine};
 
-/// Puts the text of a certificate, in puts of about 8192 bytes each. It takes no memory but for those bytes.
+/// Writes the text of a certificate, in puts of about 8192 bytes each. It allocates only that buffer.
 pub fn write_cert<K: Sink>(certificate: &Certificate, sink: &mut K) -> Result<(), Failed>
     ensures { Puts K.taken K.faults sink.old sink.new result (certificate_text certificate.now) }
 {
@@ -49,8 +49,8 @@ fn put_certificate<K: Sink>(
     put_tree(tree, buffer, sink)
 }
 
-/// Puts the lines up to the number of cuts. The cuts and the tree are to follow: a certificate's text is put so where
-/// its duals are made while they are put.
+/// Writes the lines up to the number of cuts. The cuts and the tree follow, for texts whose duals are made while they
+/// are written.
 pub fn put_top<K: Sink>(
     heading: &Heading,
     plan: &Plan,
@@ -170,7 +170,7 @@ fn put_unmarked<K: Sink>(
     put_duals(version, n, cut, buffer, sink)
 }
 
-/// Puts the lines of the tree, with how many they are in front, and the last line of the text.
+/// Writes the number of tree lines, the lines of the tree, and the last line of the text.
 pub fn put_tree<K: Sink>(
     lines: &[TreeLine],
     buffer: &mut Buffer,

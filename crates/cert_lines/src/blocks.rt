@@ -1,4 +1,4 @@
-//! Whether a commodity has a route in the next branch.
+//! Whether the next branch is infeasible for a commodity.
 
 ghost use Rattle.std.specs.Prelude.{◌≡◌, ◌≢◌, ◌<◌, ◌↔◌, [], IsTrue, Contains};
 ghost use Rattle.hub_spec.specs.Trees.{IsBlocked};
@@ -9,8 +9,8 @@ use crate::paths::TreePath;
 use hub_model::Instance;
 
 impl TreePath {
-    /// Tells whether each route that is allowed for the commodity from `i` to `j` has a closed hub in the next branch.
-    /// The path is one of the instance. No more pairs of candidates are visited than of those that are not closed.
+    /// Tells whether each allowed route of the commodity from `i` to `j` has a closed hub in the next branch. The path
+    /// is one of the instance. Routes are measured only for pairs of candidates that are not closed.
     pub fn is_blocked(&self, instance: &Instance, i: u32, j: u32) -> bool
         requires some { self.now.pending ≢ [] }
         requires candidates { self.now.candidates ≡ instance.now.candidates }

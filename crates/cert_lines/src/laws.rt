@@ -1,13 +1,13 @@
-//! What holds of the sums of a leaf: each function is empty, and its contract is the law.
+//! Laws of the sums of a leaf. Each function is empty, and its contract is the law.
 
 ghost use Rattle.cert_lines.specs.Theorems.{SumsBegin, SumsGoOn, SumsBoundLeaf};
 
-/// Sums that are begun are those of no pair.
+/// New sums are those of no pair.
 pub fn sums_begin()
     ensures { SumsBegin }
 {}
 
-/// With the part, the total and the loads of a pair's cut added, sums are those of the pairs with that one behind.
+/// Adding a cut with its weight to the sums of some pairs gives the sums of these pairs followed by the new one.
 pub fn sums_go_on()
     ensures { SumsGoOn }
 {}

@@ -8,7 +8,7 @@ ghost use Rattle.cert_lines.specs.Marks.{marked};
 use std::alloc::{AllocError, Global};
 use std::marker::Model;
 
-/// A set of nodes below a size, seen as the marks of all nodes: whether each is in the set.
+/// A set of nodes below a size, seen as one mark for each node: whether it is in the set.
 #[derive(Debug, Drop)]
 pub struct NodeMarks {
     marks: Vec<bool>,
@@ -53,14 +53,14 @@ impl NodeMarks {
         at < self.marks.len() && self.marks[at]
     }
 
-    /// Tells whether no node is in the set.
+    /// Tells whether the set is empty.
     pub fn is_empty(&self) -> bool
         ensures { IsTrue result ↔ marked self.now ≡ [] }
     {
         self.count == 0
     }
 
-    /// Puts in a node that is not in the set.
+    /// Adds a node that is not in the set.
     pub fn add(&mut self, k: u32)
         requires room { k < length self.old }
         requires new { Contains (marked self.old) k → ⊥ }
@@ -71,7 +71,7 @@ impl NodeMarks {
         self.count += 1;
     }
 
-    /// Takes out a node of the set.
+    /// Removes a node of the set.
     pub fn remove(&mut self, k: u32)
         requires { Contains (marked self.old) k }
         ensures size { length self.new ≡ length self.old }
@@ -81,7 +81,7 @@ impl NodeMarks {
         self.count -= 1;
     }
 
-    /// Takes out all nodes.
+    /// Removes all nodes.
     pub fn clear(&mut self)
         ensures size { length self.new ≡ length self.old }
         ensures none { marked self.new ≡ [] }
@@ -90,7 +90,7 @@ impl NodeMarks {
         self.count = 0;
     }
 
-    /// Makes the set that of these ascending nodes.
+    /// Replaces the set by these ascending nodes.
     pub fn assign(&mut self, nodes: &[u32])
         requires ascend { IsStrictlyIncreasing nodes.now }
         requires room { All (λ (k : ℕ). k < length self.old) nodes.now }

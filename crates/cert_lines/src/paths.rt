@@ -1,4 +1,4 @@
-//! The branches of a tree that are still to be filled.
+//! The pending branches of a tree.
 
 ghost use Rattle.std.specs.Prelude.{◌≡◌, ◌≢◌, ◌↔◌, [], ◌∷◌, length, Some, IsTrue, IfOk, Contains};
 ghost use Rattle.hub_spec.specs.Trees.{root, open_child, closed_child, IsClosed, HasRoom, LacksRoom};
@@ -11,10 +11,10 @@ use hub_model::Instance;
 use std::alloc::{AllocError, Global};
 use std::marker::Model;
 
-/// The branches of a tree that are still to be filled, the next one first; kept as the one way from the root to it.
+/// The pending branches of a tree, the next one first. In memory it is the one path from the root to the next branch.
 ///
-/// The lines of a tree come in preorder, the open child first. So each branch that waits is the closed child of a step
-/// on the way, which goes into the open one.
+/// The lines of a tree come in preorder, the open child first. So each other pending branch is the closed child of a
+/// step of the path into an open child.
 #[derive(Drop)]
 pub struct TreePath {
     trail: Trail,
@@ -30,8 +30,8 @@ impl Model for TreePath {
 }
 
 impl TreePath {
-    /// The path of a tree of which nothing is filled. The only call that takes memory: room for a step for each
-    /// candidate, and for the marks of all nodes.
+    /// The path of a tree before its first line. Only this call allocates: a step for each candidate, and a mark for
+    /// each node.
     pub fn new(alloc: Global, instance: &Instance) -> Result<TreePath, AllocError>
         ensures { IfOk result (λ path. path ≡ record {
           size = instance.now.size;
@@ -45,7 +45,7 @@ impl TreePath {
         })
     }
 
-    /// Begins a tree anew, of which nothing is filled.
+    /// Restarts at the root of a new tree.
     pub fn restart(&mut self)
         ensures { self.new ≡ record self.old { pending = undecided self.old.candidates ∷ [] } }
     {
@@ -53,14 +53,14 @@ impl TreePath {
         self.is_filled = false;
     }
 
-    /// Tells whether no branch is left to be filled.
+    /// Tells whether no branch is pending.
     pub fn is_filled(&self) -> bool
         ensures { IsTrue result ↔ self.now.pending ≡ [] }
     {
         self.is_filled
     }
 
-    /// Tells whether the node is free in the next branch, in constant time.
+    /// Tells, in constant time, whether the node is free in the next branch.
     pub fn is_free(&self, k: u32) -> bool
         requires { self.now.pending ≢ [] }
         ensures { IsTrue result ↔ Contains (next self.now.pending).free k }
@@ -68,7 +68,7 @@ impl TreePath {
         self.trail.is_free(k)
     }
 
-    /// Tells whether every candidate is closed in the next branch, in constant time.
+    /// Tells, in constant time, whether every candidate is closed in the next branch.
     pub fn is_closed(&self) -> bool
         requires { self.now.pending ≢ [] }
         ensures { IsTrue result ↔ IsClosed (next self.now.pending) }
@@ -76,7 +76,7 @@ impl TreePath {
         self.trail.is_closed()
     }
 
-    /// Tells whether so many hubs can be had in the next branch, if a number is wanted, in constant time.
+    /// Tells, in constant time, whether the next branch can have the wanted number of hubs. True where none is wanted.
     pub fn has_room(&self, wanted: Option<u32>) -> bool
         requires { self.now.pending ≢ [] }
         ensures { IsTrue result ↔ HasRoom wanted (next self.now.pending) }
@@ -87,7 +87,8 @@ impl TreePath {
         }
     }
 
-    /// Tells whether a number of hubs is wanted and can't be had in the next branch, in constant time.
+    /// Tells, in constant time, whether the next branch cannot have the wanted number of hubs. False where none is
+    /// wanted.
     pub fn lacks_room(&self, wanted: Option<u32>) -> bool
         requires { self.now.pending ≢ [] }
         ensures { IsTrue result ↔ LacksRoom wanted (next self.now.pending) }
@@ -107,7 +108,7 @@ impl TreePath {
         hubs <= count && count - hubs <= self.trail.free_count()
     }
 
-    /// Branches on a free node: the open child of the next branch comes next, then the closed one.
+    /// Branches on a free node. The open child comes next, then the closed one.
     pub fn branch(&mut self, k: u32)
         requires some { self.old.pending ≢ [] }
         requires free { Contains (next self.old.pending).free k }
@@ -121,7 +122,8 @@ impl TreePath {
         });
     }
 
-    /// Fills the next branch. The way goes back to its last step into an open child, and goes into the closed one.
+    /// Ends the next branch with a leaf. The path goes back to its last step into an open child, and into the closed
+    /// one instead.
     pub fn fill(&mut self)
         requires { self.old.pending ≢ [] }
         ensures { self.new ≡ record self.old { pending = behind_next self.old.pending } }

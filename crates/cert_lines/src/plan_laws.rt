@@ -1,18 +1,19 @@
-//! What holds of the sums of a plan: each function is empty, and its contract is the law.
+//! Laws of the sums of a plan. Each function is empty, and its contract is the law.
 
 ghost use Rattle.cert_lines.specs.PlanTheorems.{PlanBegins, PlanHasHub, PlanHasRoute, PlanCosts};
 
-/// Sums that are begun are those of no hub and no route.
+/// New sums are those of no hub and no route.
 pub fn plan_begins()
     ensures { PlanBegins }
 {}
 
-/// With a hub added, sums are those of the hubs with that one behind.
+/// Adding a hub to the sums of some hubs gives the sums of these hubs followed by the new one.
 pub fn plan_has_hub()
     ensures { PlanHasHub }
 {}
 
-/// With the route of the next commodity added, sums are those of the routes with that one behind.
+/// Adding the route of the next commodity to the sums of some routes gives the sums of these routes followed by the new
+/// one.
 pub fn plan_has_route()
     ensures { PlanHasRoute }
 {}

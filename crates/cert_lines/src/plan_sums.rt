@@ -9,8 +9,8 @@ use hub_model::Instance;
 use std::alloc::{AllocError, Global};
 use std::marker::Model;
 
-/// The hubs of a plan, how many commodities have a route, and what the hubs and these routes cost, as the lines of the
-/// plan come.
+/// The sums of a plan over the lines read so far: its hubs, the number of commodities with a route, and the cost of
+/// hubs and routes.
 #[derive(Drop)]
 pub struct PlanSums {
     hubs: NodeMarks,
@@ -30,7 +30,7 @@ impl Model for PlanSums {
 }
 
 impl PlanSums {
-    /// The sums of no hub. The only call that takes memory: room for a mark for each node.
+    /// Empty sums. Only this call allocates: a mark for each node.
     pub fn new(alloc: Global, instance: &Instance) -> Result<PlanSums, AllocError>
         ensures { IfOk result (λ sums. sums ≡ no_plan instance.now.size) }
     {
@@ -42,7 +42,7 @@ impl PlanSums {
         })
     }
 
-    /// Begins a plan anew.
+    /// Restarts with an empty plan.
     pub fn restart(&mut self)
         ensures { self.new ≡ no_plan self.old.size }
     {
@@ -52,14 +52,14 @@ impl PlanSums {
         self.cost = 0;
     }
 
-    /// Tells whether the node is among the hubs, in constant time.
+    /// Tells, in constant time, whether the node is a hub of the plan.
     pub fn has_hub(&self, k: u32) -> bool
         ensures { IsTrue result ↔ Contains self.now.hubs k }
     {
         self.hubs.has(k)
     }
 
-    /// Adds a hub above those before it. It need not be a candidate.
+    /// Adds a hub, greater than those before it. It need not be a candidate.
     pub fn add_hub(&mut self, instance: &Instance, k: u32)
         requires nodes { self.old.size ≡ instance.now.size }
         requires node { k < self.old.size }
@@ -71,7 +71,7 @@ impl PlanSums {
         self.hub_count += 1;
     }
 
-    /// Tells whether there are as many hubs as the instance wants, if it wants a number, in constant time.
+    /// Tells, in constant time, whether the number of hubs is the wanted one. True where none is wanted.
     pub fn has_wanted(&self, instance: &Instance) -> bool
         ensures { IsTrue result ↔ HasWanted instance.now self.now.hubs }
     {
@@ -81,7 +81,7 @@ impl PlanSums {
         }
     }
 
-    /// Adds the route of the next commodity: its first and its last hub.
+    /// Adds the route of the next commodity: its first and last hub.
     pub fn add_route(&mut self, instance: &Instance, commodity: (u32, u32), route: (u32, u32))
         requires nodes { self.old.size ≡ instance.now.size }
         requires from { commodity.0 < self.old.size }
@@ -105,7 +105,7 @@ impl PlanSums {
         self.routed as usize == size * size
     }
 
-    /// What the hubs and the routes so far cost.
+    /// The cost of the hubs and routes so far, in 10^-12.
     pub fn cost(&self) -> u128
         ensures { result ≡ self.now.cost }
     {

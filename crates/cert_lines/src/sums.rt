@@ -17,8 +17,8 @@ use hub_model::{Instance, difference, signed};
 use std::alloc::{AllocError, Global};
 use std::marker::Model;
 
-/// The sums of a leaf, as its pairs come: of the weights, and of the cuts' totals and their loads by node, each as
-/// often as its weight has the part of its cut.
+/// The sums of a leaf over the pairs read so far: the weights, and the weighted totals and loads of the cuts. A cut
+/// counts as often as its weight has its part.
 #[derive(Drop)]
 pub struct LeafSums {
     denom: u128,
@@ -38,7 +38,7 @@ impl Model for LeafSums {
 }
 
 impl LeafSums {
-    /// Sums of nothing, with the denominator 1. The only call that takes memory: room for a load for each node.
+    /// Empty sums, with the denominator 1. Only this call allocates: a load for each node.
     pub fn new(alloc: Global, instance: &Instance) -> Result<LeafSums, AllocError>
         ensures { IfOk result (IsBegun 1 instance.now.size) }
     {
@@ -61,15 +61,15 @@ impl LeafSums {
         self.loads.fill(0);
     }
 
-    /// Tells whether the weights are at most the denominator with this one as well.
+    /// Tells whether the weights with this one added are at most the denominator.
     pub fn fits(&self, weight: u128) -> bool
         ensures { IsTrue result ↔ (self.now.weight + weight ≤ self.now.denom) }
     {
         weight <= self.denom - self.weight
     }
 
-    /// Adds a cut of this part, this total and these loads by node, with a weight that fits. They count as often as the
-    /// weight has the part, rounded down.
+    /// Adds a cut with a weight that fits. Its total and its loads by node count as often as the weight has the part,
+    /// rounded down.
     pub fn add(&mut self, weight: u128, part: u32, total: u128, loads: &[u128])
         requires fits { self.old.weight + weight ≤ self.old.denom }
         requires part_least { 1 ≤ part }
@@ -84,8 +84,8 @@ impl LeafSums {
         self.weight += weight;
     }
 
-    /// Tells whether the bound of the path's next branch by these sums closes the target. On a path of the instance that
-    /// branch is one of its problem's.
+    /// Tells whether the path's next branch is fathomed by the bound of these sums at the cutoff `target`, in 10^-12.
+    /// On a path of the instance it is a branch of the instance.
     pub fn closes(&self, path: &TreePath, instance: &Instance, target: u128) -> bool
         requires some { path.now.pending ≢ [] }
         requires nodes { path.now.size ≡ instance.now.size }

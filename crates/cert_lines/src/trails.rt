@@ -1,4 +1,4 @@
-//! The way from the root of a tree down to a branch.
+//! The path from the root of a tree to a branch.
 
 ghost use Rattle.std.specs.Prelude.{◌≡◌, ◌↔◌, [], ◌∷◌, length, IsTrue, IfOk, MatchOption, Contains};
 ghost use Rattle.hub_spec.specs.Trees.{IsClosed};

@@ -1,4 +1,4 @@
-//! What one byte makes of a line.
+//! The effect of one byte on a line.
 ghost use Rattle.std.specs.Prelude.{◌≡◌, ◌-◌, ◌≤◌, true, None};
 ghost use Rattle.cert_scan.specs.declared.bytes.Position.TheVariants.{Keyword};
 ghost use Rattle.cert_scan.specs.Moves.{

@@ -1,4 +1,5 @@
-//! The front of the line of a dual or of a proof, up to what it lists, where it stands whole in the bytes at hand.
+//! The fixed first part of the line of a dual or of a proof, up to what it lists, where the bytes at hand have all of
+//! it.
 ghost use Rattle.std.specs.Prelude.{◌≡◌, ◌+◌, ◌<◌, ◌≤◌, length, codes, take, Some, IfSome, true};
 ghost use Rattle.cert_scan.specs.Runs.{GoesOn};
 ghost use Rattle.cert_scan.specs.Fronts.{AreNodesAt, IsDualAhead, AreDualsAhead, IsProofAhead};

@@ -1,4 +1,4 @@
-//! The first word of a line, by what the line is.
+//! The first word of a line, which tells its kind.
 ghost use Rattle.std.specs.Prelude.{◌≡◌, ◌+◌, ◌≤◌, ◌⊎◌, length, take};
 ghost use Rattle.cert_scan.specs.Runs.{GoesOn};
 ghost use Rattle.cert_scan.specs.Moves.{

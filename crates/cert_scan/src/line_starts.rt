@@ -1,6 +1,6 @@
 //! The start of the line of a dual or of a proof, taken in one step up to what the line lists.
 //!
-//! Any other start, and one that does not stand whole in the bytes at hand, is taken word by word and number by number.
+//! Any other start is taken word by word and number by number, as is one that the bytes at hand have only in part.
 ghost use Rattle.std.specs.Prelude.{◌≡◌, false, None, IfSome};
 ghost use Rattle.cert_scan.specs.Scans.{put, with_item};
 ghost use Rattle.cert_scan.specs.Runs.{Runs};

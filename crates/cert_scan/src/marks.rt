@@ -1,6 +1,6 @@
-//! The numbers of a mark and of a proof: what each makes of its line.
+//! The effect of each number of a mark or a proof on its line.
 //!
-//! Each is taken apart, so that the numbers of all other lines are spared the code.
+//! These have their own functions, so that the numbers of other lines are not slowed down.
 ghost use Rattle.std.specs.Prelude.{◌≡◌};
 ghost use Rattle.cert_scan.specs.Moves.{part_by, taken_by, is_later_way};
 ghost use Rattle.cert_scan.specs.declared.places.Place.TheVariants.{

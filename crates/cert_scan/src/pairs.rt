@@ -1,4 +1,4 @@
-//! What a dual lists next, where it stands whole in the bytes at hand.
+//! The next pair of a dual, where the bytes at hand have all of it.
 ghost use Rattle.std.specs.Prelude.{◌≡◌, ◌<◌, ◌≤◌, Some, IfSome};
 ghost use Rattle.cert_scan.specs.Ahead.{IsPairAhead};
 

@@ -1,4 +1,4 @@
-//! The numbers of a line: where each stands, and what it makes of the line.
+//! The numbers of a line: the place of each, and its effect on the line.
 ghost use Rattle.std.specs.Prelude.{◌≡◌, ◌+◌, nat_eq};
 ghost use Rattle.cert_spec.specs.Reading.{is_short};
 ghost use Rattle.cert_scan.specs.Moves.{

@@ -1,4 +1,4 @@
-//! What a proof lists next, where it stands whole in the bytes at hand.
+//! The next edge of a proof, where the bytes at hand have all of it.
 ghost use Rattle.std.specs.Prelude.{◌≡◌, ◌≤◌, Some, IfSome, true};
 ghost use Rattle.cert_scan.specs.Ahead.{IsWayAhead};
 ghost use Rattle.cert_scan.specs.Moves.{is_later_way};

@@ -1,4 +1,4 @@
-//! Whether a dual of a plain cut repeats the one before it in its origin.
+//! Whether a dual of an unmarked cut repeats the one before it in its origin.
 ghost use Rattle.std.specs.Prelude.{◌≡◌, ◌&&◌, Some};
 ghost use Rattle.cert_scan.specs.Repeats.{
   no_dual,

@@ -1,4 +1,4 @@
-//! A scan of the bytes of a text.
+//! The scan of a text's bytes.
 ghost use Rattle.std.specs.Prelude.{◌≡◌, ℕ, ◌-◌, ◌++◌, ◌<◌, ◌≤◌, List, [], ◌∷◌, length, take, Some, None, false, IfSome, option_to_list};
 ghost use Rattle.cert_spec.specs.Stated.{Stated};
 ghost use Rattle.cert_spec.specs.Text.{Spells};
@@ -42,7 +42,7 @@ use crate::repeats::DualSoFar;
 use crate::stages::{Shape, Stage, WaysAt};
 use memchr::memchr;
 
-/// The scan of a text, of which some bytes have come. It takes no memory, but has room for the pairs of one dual.
+/// The scan of a text so far. It allocates nothing, and holds at most the pairs of one dual.
 #[derive(Drop)]
 pub struct Scan {
     // The version and the number of nodes, once the text has told them.
@@ -54,7 +54,7 @@ pub struct Scan {
 }
 
 impl Scan {
-    /// The scan of which no byte has come.
+    /// The scan before the first byte.
     pub fn new() -> Scan
         ensures { HasScanned [] [] result }
     {
@@ -69,10 +69,10 @@ impl Scan {
         }
     }
 
-    /// Takes the next byte, and gives the item that is told with it, if one is.
+    /// Takes the next byte, and gives the item that it completes, if there is one.
     ///
-    /// It is told with the byte that ends it: the items given so far are those of the pieces of the text that have come
-    /// whole, of whole lines and the first ones of the line that stands. Once a line is not as wanted, no item comes.
+    /// The items so far are those of whole lines, and the first ones of the present line. After a line that does not
+    /// fit the grammar no item comes.
     pub fn step(&mut self, byte: u8) -> Option<Item>
         ensures given { result ≡ given_by self.old byte }
         ensures after { self.new ≡ stepped self.old byte }
@@ -87,9 +87,10 @@ impl Scan {
         self.advance(byte)
     }
 
-    /// Takes bytes up to the one that gives an item, and with it, or all where none does: how many, and the item.
+    /// Takes bytes up to the one that completes an item, or all where none does. It returns the number of bytes taken,
+    /// and the item.
     ///
-    /// It does what `step` does with each of them: the item comes with the last byte taken, and with none before.
+    /// It equals `step` on each of these bytes: the last one gives the item, and none before it does.
     // In its callers, where what it gives need not be copied.
     #[inline(always)]
     pub fn run(&mut self, bytes: &[u8]) -> (usize, Option<Item>)
@@ -344,7 +345,8 @@ impl Scan {
         }
     }
 
-    /// The number of the line in which the next byte stands, counted from 1; once a line was bad, that of the bad line.
+    /// The number of the line of the next byte, counted from 1. After a line that does not fit the grammar, the number
+    /// of that line.
     pub fn line(&self) -> u64
         ensures value { result ≡ self.now.line }
         ensures at_hand { (bytes : List ℕ) (given : List ItemOf) → HasScanned bytes given self.now → AreCountable bytes
@@ -353,7 +355,7 @@ impl Scan {
         self.line
     }
 
-    /// The fault of the bytes that have come, if they are not the whole text of a certificate.
+    /// The fault of the bytes so far, or `None` where they are the whole text of a certificate.
     pub fn finish(&self) -> Option<Fault>
         ensures value { result ≡ fault_by self.now }
         ensures tells { (bytes : List ℕ) (given : List ItemOf) → HasScanned bytes given self.now → AreCountable bytes

@@ -1,4 +1,4 @@
-//! What the next line of the text is to be.
+//! The stage of the text: what its next line must be.
 ghost use Rattle.std.specs.Prelude.{◌≡◌, ◌-◌};
 ghost use Rattle.cert_scan.specs.Moves.{
   next_commodity_of,

@@ -1,7 +1,7 @@
-//! The digits at the front of eight bytes, all at once.
+//! Up to eight leading digits of eight bytes, all at once.
 //!
-//! Eight bytes of a text are one word, the first of them lowest. Where the bits of `0` are turned, a digit's byte is what
-//! the digit is worth, and any other byte is at least 10. Three multiplications then join eight digits: to pairs, to
+//! Eight bytes of a text are one word, the first of them lowest. Where the bits of `0` are flipped, a digit's byte is
+//! the digit's value, and any other byte is at least 10. Three multiplications then join eight digits: to pairs, to
 //! fours, and to one number.
 ghost use Rattle.std.specs.Prelude.{◌≡◌, ℕ, ◌+◌, ◌-◌, ◌*◌, ◌%◌, ◌^◌, ◌<◌, ◌≤◌, List, length, map, take, drop};
 ghost use Rattle.cert_scan.specs.Digits.{spelled, Spell, AreEight, word_of, mark};

@@ -6,7 +6,7 @@ use crate::rules::IsDrawn;
 use atomic_table::Table;
 use std::alloc::Global;
 
-/// Gives out the numbers below `blocks`, each once. Threads share it by reference.
+/// Hands out the numbers below `blocks`, each once. Threads share it by reference.
 #[derive(Drop)]
 pub struct Board {
     pub(crate) table: Table<(), Told, Size, IsDrawn, Global>,

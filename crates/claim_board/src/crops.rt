@@ -1,8 +1,8 @@
-//! What a worker brings.
+//! The results of a worker.
 
 use crate::Seat;
 
-/// A block that was done, and its answer until it is taken out.
+/// A finished block, with its answer until it is taken out.
 #[derive(Drop)]
 pub struct Row<T: Drop> {
     /// The number of the block, from 0.
@@ -11,10 +11,10 @@ pub struct Row<T: Drop> {
     pub value: Option<T>,
 }
 
-/// What one worker, or several together, did.
+/// The results of one worker, or of several together.
 #[derive(Drop)]
 pub struct Crop<T: Drop> {
-    /// The seat that drew the blocks; it has ended.
+    /// The seat that drew the blocks. It has ended.
     pub seat: Seat,
     /// A row for each block drawn, in the order of the seat's list.
     pub rows: Vec<Row<T>>,

@@ -1,11 +1,11 @@
-//! What work is.
+//! What a job is.
 ghost use Rattle.std.specs.Prelude.{ℕ, IfOk};
 
 use std::alloc::{AllocError, Global};
 
-/// Work in blocks, each of which is done by itself.
+/// Work in independent blocks.
 pub trait Job<T> {
-    /// What blocks are worked out in. Each worker has one of its own, for all of its blocks.
+    /// The workspace of a worker. Each worker has its own, for all of its blocks.
     type Scratch: Send + Drop;
 
     // The answer of a block.
@@ -17,11 +17,11 @@ pub trait Job<T> {
     // The scratches that serve any block.
     ghost serves: { Self → Self.Scratch → Type 0 };
 
-    /// A scratch for one worker.
+    /// A workspace for one worker.
     fn new_scratch(&self, alloc: Global) -> Result<Self::Scratch, AllocError>
         ensures { IfOk result (serves self.now) };
 
-    /// Works out the answer of one block.
+    /// Computes the answer of one block.
     fn at(&self, alloc: Global, scratch: &mut Self::Scratch, block: u32) -> Result<T, AllocError>
         requires accepts { accepts self.now block }
         requires serves { serves self.now scratch.old }

@@ -3,8 +3,8 @@ ghost use Rattle.std.specs.Prelude.{◌≡◌, ◌<◌, []};
 
 use crate::hands::Told;
 
-/// The right to draw from one board, for one thread at a time. What is known of it is its `Hand`; when the program
-/// runs it is no more than the mark that it has ended.
+/// The right to draw from one board, for one thread at a time. Contracts know it by its `Hand`; at run time it only
+/// records whether it has ended.
 #[derive(Drop)]
 pub struct Seat {
     pub(crate) place: atomic_table::Seat<(), Told>,

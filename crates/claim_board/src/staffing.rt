@@ -59,8 +59,10 @@ fn staff<R: Threads + Sync, T: Send + Drop, J: Job<T> + Sync, G: Gate>(
     })
 }
 
-/// The answers of all blocks below `blocks`, in the order of the blocks, worked out by so many workers, 1 to 64, each
-/// in a thread of its own where one can be made. No worker is made that would have no block.
+/// The answers of all blocks below `blocks`, in the order of the blocks.
+///
+/// At most `workers` workers compute them, from 1 to 64, and no more than there are blocks. Each has its own thread
+/// where one can be made. The answers depend neither on the number of workers nor on their schedule.
 pub fn answers<R: Threads + Sync, T: Send + Drop, J: Job<T> + Sync, G: Gate>(
     rt: &R,
     alloc: Global,

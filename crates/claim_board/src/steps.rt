@@ -13,15 +13,15 @@ use crate::seats::Seat;
 use atomic_table::Table;
 use std::alloc::{AllocError, Global};
 
-/// What was given out in all.
+/// The numbers handed out in all.
 #[derive(Drop)]
 pub struct Drawn {
-    /// How many numbers: those below it.
+    /// The count of the numbers: exactly those below it were handed out.
     pub taken: u32,
 }
 
 impl Board {
-    /// A board of so many blocks, and the one seat of it, whose share is `seats`, from 1 to 64.
+    /// A board of `blocks` numbers, and its only seat, whose share is `seats`, from 1 to 64.
     pub fn new(alloc: Global, blocks: u32, seats: u32) -> Result<(Board, Seat), AllocError>
         requires { (1 ≤ seats) × (seats ≤ 64) }
         ensures board { IfOk result (λ r. (r.0.blocks ≡ blocks) × (seats_of r.0 ≡ seats)) }
@@ -37,8 +37,8 @@ impl Board {
         Ok((board, seat))
     }
 
-    /// The next number, in one step that no other draw comes between. None where the number is at least `blocks`, or
-    /// where this seat has ended; then the seat is ended, and draws no more.
+    /// The next number, in one atomic step. `None` where the number is at least `blocks`, or where this seat has ended.
+    /// The seat is then ended and draws no more.
     pub fn draw(&self, seat: &mut Seat) -> Option<u32>
         requires { IsSeatOf self.now seat.old }
         ensures seat { IsSeatOf self.now seat.new }
@@ -57,8 +57,8 @@ impl Board {
         }
     }
 
-    /// Two seats of one whose share is at least 2: the first keeps the list, and the second gets half of the share,
-    /// rounded down. Both are ended where the one was.
+    /// Splits a seat whose share is at least 2. The first seat keeps the list; the second gets half of the share,
+    /// rounded down. Both are ended where the seat was.
     pub fn split(&self, seat: Seat) -> (Seat, Seat)
         requires { IsSeatOf self.now seat × (2 ≤ (hand_of seat).share) }
         ensures seats { IsSeatOf self.now result.0 × IsSeatOf self.now result.1 }
@@ -70,7 +70,7 @@ impl Board {
         (Seat { place, ended }, Seat { place: new, ended })
     }
 
-    /// One seat of two: lists and shares are added, and it is ended where one of the two was.
+    /// Joins two seats: lists and shares are added. The seat is ended where one of the two was.
     pub fn join(&self, seat: Seat, other: Seat) -> Seat
         requires { IsSeatOf self.now seat × IsSeatOf self.now other }
         ensures seat { IsSeatOf self.now result }
@@ -88,8 +88,8 @@ impl Board {
         }
     }
 
-    /// What was given out, to whom has the whole share: the seat's list has each number below `taken` once, and
-    /// nothing else.
+    /// All that was handed out, for the seat with the whole share. Its list has each number below `taken` exactly once,
+    /// and no other.
     pub fn close(self, seat: Seat) -> Drawn
         requires { IsSeatOf self seat × ((hand_of seat).share ≡ seats_of self) }
         ensures ran { (events : List Event) × (place : ℕ) × (get_elem? (run self.blocks (seats_of self) events).seats place ≡ some (hand_of seat)) × (result.taken ≡ min (run self.blocks (seats_of self) events).next self.blocks) }

@@ -9,8 +9,8 @@ use crate::{Board, Seat};
 use hub_io::Gate;
 use std::alloc::{AllocError, Global};
 
-/// Draws blocks until none is left, and does each of them, all in one scratch. The worker passes the gate after each
-/// draw that gave it a block, before it does the block.
+/// Draws blocks until none is left, and computes each of them in one scratch. The worker passes the gate before each
+/// block that it drew.
 pub fn work<T: Drop, J: Job<T>, G: Gate>(
     alloc: Global,
     board: &Board,

@@ -1,4 +1,4 @@
-//! Pareto-optimal duals that are found ahead of their turn.
+//! Pareto-optimal duals that are found before their commodity comes in order.
 
 ghost use Rattle.std.specs.Prelude.{◌≡◌, ◌*◌, ◌<◌, length, None, All, IfOk, IfSome};
 ghost use Rattle.hub_spec.specs.Plans.{IsHubSet};

@@ -1,4 +1,4 @@
-//! The cut of duals that are found, brought to one part.
+//! The cut of the found duals, scaled to one part.
 
 ghost use Rattle.std.specs.Prelude.{◌≡◌, ◌↔◌, ◌*◌, ◌<◌, ◌≤◌, ◌⊎◌, length, slice_index, None, All, IfOk, IfSome, IsTrue};
 ghost use Rattle.std.specs.List.{AllZip};

@@ -1,4 +1,4 @@
-//! Duals brought to a greater part.
+//! Duals scaled to a greater part.
 
 ghost use Rattle.std.specs.Prelude.{◌≡◌, ◌↔◌, ◌*◌, ◌<◌, ◌≤◌, pos, length, slice_index_or, None, All, IfOk, IfSome, IsTrue};
 ghost use Rattle.std.specs.Int.{◌∣◌};

@@ -1,4 +1,4 @@
-//! The least part that duals have in common.
+//! The least common part of duals.
 
 ghost use Rattle.std.specs.Prelude.{◌≡◌, ◌↔◌, ◌<◌, ◌≤◌, ℕ, All, None, IfSome, IsTrue};
 ghost use Rattle.std.specs.Int.{◌∣◌};

@@ -24,7 +24,7 @@ use plain_rows::PlainRows;
 use std::alloc::{AllocError, Global};
 use std::marker::Model;
 
-/// A Pareto-optimal dual of a commodity: its part, its price and its values, in 10^-12 times the part, and what proves it.
+/// A Pareto-optimal dual of a commodity: its part, its price and values in 10^-12 times the part, and its proof.
 #[derive(Drop)]
 pub struct CoreDual {
     pub part: u32,
@@ -47,8 +47,9 @@ impl Model for CoreDual {
     ghost view = { λ s. record { part = s.part; dual = s.dual; proof = s.proof } };
 }
 
-/// The Pareto-optimal dual of the commodity from `i` to `j` at these hubs. There is none where the run of its linear
-/// program ends early, or where what is read of the best table is not tight at the hubs or not within its limits.
+/// A Pareto-optimal dual (Magnanti and Wong 1981) of the commodity from `i` to `j` at these hubs. `None` where the
+/// simplex run does not end optimal, or where the dual read off the last tableau is not tight at the hubs or passes a
+/// limit.
 pub fn core_dual(
     alloc: Global,
     instance: &Instance,

@@ -1,4 +1,4 @@
-//! The ways of a commodity, and what they cost.
+//! The edges of a commodity, and their costs.
 
 ghost use Rattle.std.specs.Prelude.{◌≡◌, ◌+◌, ◌*◌, ◌/◌, ◌^◌, ◌<◌, ◌≤◌, ℕ, None, map, pos, true, false, All, IfOk, IfSome};
 ghost use Rattle.hub_spec.specs.Problem.{flow};

@@ -18,8 +18,8 @@ use cut_model::{Mark, MarkedCut};
 use hub_model::{HubSet, Instance};
 use std::alloc::{AllocError, Global};
 
-/// The Pareto-optimal cut of this hub set. There is none where cuts may not be marked, where a commodity has no
-/// Pareto-optimal dual, or where the cut is not within the limits of a certificate.
+/// The Pareto-optimal cut of this hub set. `None` where the instance allows no marked cuts, where a commodity has no
+/// dual found, or where the cut passes a limit of certificates.
 pub fn core_cut(
     alloc: Global,
     instance: &Instance,

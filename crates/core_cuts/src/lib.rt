@@ -43,42 +43,42 @@ pub use runs::{
     reading_is_core, run_combines,
 };
 
-/// What is found is feasible, and a Pareto-optimal dual by its proof.
+/// A found dual is feasible, and Pareto-optimal by its proof.
 pub fn found_is_core()
     ensures { FoundIsCore }
 {}
 
-/// No other is found.
+/// A found dual is unique.
 pub fn found_is_one()
     ensures { FoundIsOne }
 {}
 
-/// Where one is found it does not hold that nothing is.
+/// A dual that is found is not also declared not found.
 pub fn found_or_not()
     ensures { FoundOrNot }
 {}
 
-/// What is found is what a function of the instance, the hubs and the commodity gives.
+/// The found dual is a function of the instance, the hubs and the commodity.
 pub fn found_is_function()
     ensures { FoundIsFunction }
 {}
 
-/// The ways of what is found stand as in the line of a proof.
+/// The edges of a found proof are in the order of a certificate's line.
 pub fn found_in_order()
     ensures { FoundInOrder }
 {}
 
-/// The cut that is found for a hub set is a Pareto-optimal cut by its mark.
+/// The cut found for a hub set is Pareto-optimal by its mark.
 pub fn cored_is_core()
     ensures { CoredIsCore }
 {}
 
-/// The cut of a hub set is what a function of the instance and the hubs gives.
+/// The cut found for a hub set is a function of the instance and the hubs.
 pub fn cored_is_function()
     ensures { CoredIsFunction }
 {}
 
-/// The cut that is found for a hub set is within the ranges of a certificate, and tight at the hubs.
+/// The cut found for a hub set is within the ranges of a certificate, and tight at the hubs.
 pub fn cored_serves()
     ensures { CoredServes }
 {}

@@ -1,5 +1,5 @@
-//! The Pareto-optimal dual of a commodity, and that of its way back where this has the same ways at the same costs: then
-//! the linear program of both is the same, and it runs once.
+//! The Pareto-optimal duals of a commodity and of its reverse. Where both have equal edges at equal costs, they share
+//! one linear program, which runs once.
 
 ghost use Rattle.std.specs.Prelude.{◌≡◌, ◌<◌, None, IfOk, IfSome};
 ghost use Rattle.hub_spec.specs.Plans.{IsHubSet};

@@ -1,4 +1,4 @@
-//! The reading of a best table.
+//! The reading of an optimal tableau.
 
 ghost use Rattle.std.specs.Prelude.{◌≡◌, ◌<◌, ◌≤◌, length, None, IfOk, IfSome};
 ghost use Rattle.hub_spec.specs.Limits.{most_part};

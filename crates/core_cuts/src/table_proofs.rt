@@ -1,4 +1,4 @@
-//! What a last table proves.
+//! The proof that a last tableau gives.
 
 ghost use Rattle.std.specs.Prelude.{◌≡◌, ◌↔◌, ◌+◌, ◌≤◌, length, All, IfOk, IsTrue};
 ghost use Rattle.core_spec.specs.CoreCuts.{Way};

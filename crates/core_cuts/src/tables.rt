@@ -1,4 +1,4 @@
-//! The table of the core problem before the first pivot.
+//! The tableau of the core problem before the first pivot.
 
 ghost use Rattle.std.specs.Prelude.{◌≡◌, ◌+◌, ◌*◌, ◌^◌, ◌<◌, ◌≤◌, ◌++◌, ℕ, List, [], ◌∷◌, length, map, flat_map, pos, ◌-ℤ◌, unsigned_abs, All, IfOk, OnOk};
 ghost use Rattle.frac_rows.specs.Starts.{start};

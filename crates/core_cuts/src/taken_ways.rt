@@ -1,4 +1,4 @@
-//! How often each way is taken.
+//! The multiplicity of each edge in a proof.
 
 ghost use Rattle.std.specs.Prelude.{◌≡◌, ◌+◌, ◌≤◌, ◌++◌, ◌∷◌, [], length, drop, filter, IfOk, OnOk};
 ghost use Rattle.frac_rows.specs.Rows.{objective};

@@ -1,4 +1,4 @@
-//! What is read of a best table: a price and values by unit of flow.
+//! Price and values per unit of flow, read off an optimal tableau.
 
 ghost use Rattle.std.specs.Prelude.{◌≡◌, ◌↔◌, ◌+◌, ◌*◌, ◌<◌, ◌≤◌, [], length, map, zip, sum_by, All, IfOk, IsTrue, vec_capacity};
 ghost use Rattle.hub_spec.specs.Cuts.{value_at};

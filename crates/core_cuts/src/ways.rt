@@ -1,4 +1,4 @@
-//! The ways of a commodity together with what they cost.
+//! The edges of a commodity with their costs.
 
 ghost use Rattle.std.specs.Prelude.{◌≡◌, ◌↔◌, ◌<◌, ◌≤◌, ◌++◌, ◌∷◌, [], None, map, filter, pos, All, IfOk, OnOk, IsTrue};
 ghost use Rattle.core_spec.specs.CoreCuts.{pair_cost};

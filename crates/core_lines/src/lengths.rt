@@ -1,4 +1,4 @@
-//! What routes cost by unit of flow, in 10^-6.
+//! The costs of routes per unit of flow, in 10^-6.
 
 ghost use Rattle.std.specs.Prelude.{◌≡◌, ◌*◌, ◌<◌, ◌≤◌, None, length, slice_index};
 ghost use Rattle.hub_spec.specs.Problem.{flow, route_cost};

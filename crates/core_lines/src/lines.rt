@@ -1,4 +1,4 @@
-//! The line of a proof, way by way, and what it shows.
+//! The line of a proof, edge by edge, and its test.
 
 ghost use Rattle.std.specs.Prelude.{◌≡◌, ℕ, ◌+◌, ◌*◌, ◌^◌, ◌<◌, ◌≤◌, ◌↔◌, None, length, slice_index, IsTrue, IfOk, All, Contains};
 ghost use Rattle.hub_spec.specs.Problem.{IsProblem};
@@ -17,9 +17,9 @@ use hub_model::Instance;
 use std::alloc::{AllocError, Global};
 use std::marker::Model;
 
-/// A commodity with the proof of its dual: turns, scale, and what its ways come to.
+/// A commodity with the proof of its dual: turns, scale, and the sums of its edges.
 ///
-/// One after another may stand here. No way is kept.
+/// It is used for one proof after another. No edge is stored.
 #[derive(Drop)]
 pub struct ProofLine<'a> {
     instance: &'a Instance,
@@ -46,7 +46,7 @@ impl<'a> Model for ProofLine<'a> {
 }
 
 impl<'a> ProofLine<'a> {
-    /// The first commodity of the instance, with the scale 1 and no way. The only call that takes memory.
+    /// The first commodity of the instance, with the scale 1 and no edge. Only this call allocates.
     pub fn new(alloc: Global, instance: &'a Instance) -> Result<ProofLine<'a>, AllocError>
         ensures { IfOk result (IsNoWay instance.now (0, 0) 0 1) }
     {
@@ -64,7 +64,7 @@ impl<'a> ProofLine<'a> {
         })
     }
 
-    /// Begins the proof of the commodity from `i` to `j`, as yet without ways.
+    /// Begins the proof of the commodity from `i` to `j`, without edges yet.
     pub fn begin(&mut self, i: u32, j: u32, turns: u32, scale: u32)
         requires from { i < self.old.problem.size }
         requires to { j < self.old.problem.size }
@@ -84,7 +84,7 @@ impl<'a> ProofLine<'a> {
         self.are_candidates = true;
     }
 
-    /// Takes the way by the single hub `k`, or by the hub edge of `k` and `m`, so often.
+    /// Adds the single hub `k`, or the hub edge of `k` and `m`, with the multiplicity `often`.
     pub fn take(&mut self, k: u32, m: u32, often: u64)
         requires first { k < self.old.problem.size }
         requires last { m < self.old.problem.size }
@@ -101,8 +101,8 @@ impl<'a> ProofLine<'a> {
         self.count += 1;
     }
 
-    /// Tells whether a dual of this price, with this value for each node, is a Pareto-optimal dual by the proof, where the
-    /// length of routes is not limited.
+    /// Tells whether the dual with this price and these values, one for each node, is Pareto-optimal by the proof. The
+    /// instance has no length limit.
     pub fn proves(&self, hubs: &[u32], part: u32, price: u128, values: &[u128]) -> bool
         requires any_length { self.now.problem.longest ≡ None }
         requires set { IsCandidateSet self.now.problem hubs.now }

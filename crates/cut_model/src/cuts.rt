@@ -1,4 +1,4 @@
-//! Cuts as certificates state them.
+//! Explicit cuts, as certificates state them.
 
 ghost use Rattle.std.specs.Prelude.{◌≡◌, ℕ, ◌+◌, ◌*◌, ◌<◌, ◌≤◌, ◌↔◌, [], ◌++◌, length, replicate, slice_index, slice_index_or, All, IfOk, IsTrue};
 ghost use Rattle.hub_spec.specs.Cuts.{value_at, total, load};
@@ -15,10 +15,10 @@ use hub_model::Dual;
 use std::alloc::{AllocError, Global};
 use std::marker::Model;
 
-/// A cut as a certificate states it: its part, and its duals of that part, one for each commodity in order. Prices and
+/// An explicit cut of a certificate: its part, and its duals of that part, one for each commodity in order. Prices and
 /// values are in 10^-12.
 ///
-/// The dual of a run of commodities is held once.
+/// A run of equal duals is held once.
 #[derive(Drop)]
 pub struct StatedCut {
     part: u32,
@@ -41,7 +41,7 @@ impl Model for StatedCut {
 }
 
 impl StatedCut {
-    /// The cut of this part without duals. It takes no memory.
+    /// The cut of this part, without duals yet. It allocates nothing.
     pub fn new(alloc: Global, part: u32) -> StatedCut
         ensures { result ≡ record { part = part; duals = [] } }
     {
@@ -60,14 +60,14 @@ impl StatedCut {
         self.part
     }
 
-    /// How many duals there are.
+    /// The number of duals.
     pub fn count(&self) -> u32
         ensures { result ≡ length self.now.duals }
     {
         self.count
     }
 
-    /// The dual of the commodity of this number, counted from 0.
+    /// The dual of the commodity with this number, counted from 0.
     pub fn dual(&self, number: u32) -> StatedDual<'_>
         requires { number < length self.now.duals }
         ensures { result ≡ slice_index_or self.now.duals number no_dual }
@@ -76,7 +76,7 @@ impl StatedCut {
         lend(&self.values, &self.runs[place])
     }
 
-    /// Tells whether the commodities of these numbers have the same dual.
+    /// Tells whether the commodities with these numbers have equal duals.
     pub fn is_same(&self, first: u32, second: u32) -> bool
         requires first { first < length self.now.duals }
         requires second { second < length self.now.duals }
@@ -90,7 +90,7 @@ impl StatedCut {
         lend(&self.values, &self.runs[one]).is_same(&lend(&self.values, &self.runs[other]))
     }
 
-    /// The sum of the prices, in 10^-12.
+    /// The total: the sum of the prices, in 10^-12.
     pub fn total(&self) -> u128
         requires few { length self.now.duals ≤ most_duals }
         requires short { All (λ d. IsAmount d.a) self.now.duals }
@@ -99,7 +99,7 @@ impl StatedCut {
         total_of(&self.runs)
     }
 
-    /// The sums of the values, by node, of so many nodes, in 10^-12.
+    /// The loads of the first `n` nodes: for each the sum of its values, in 10^-12.
     pub fn loads(&self, alloc: Global, n: u32) -> Result<Vec<u128>, AllocError>
         requires few { length self.now.duals ≤ most_duals }
         requires duals { All (IsDualInRange n) self.now.duals }
@@ -110,9 +110,9 @@ impl StatedCut {
         loads_of(alloc, n, &self.values, &self.runs)
     }
 
-    /// Adds the dual of a run of so many commodities.
+    /// Appends the equal duals of a run of `many` commodities.
     ///
-    /// The answer is `AllocError` where memory runs out, or where there are more duals or values than can be counted.
+    /// `AllocError` means that memory ran out, or that there are more duals or values than can be counted.
     pub fn add(&mut self, many: u32, dual: &Dual) -> Result<(), AllocError>
         requires some { 1 ≤ many }
         requires dual { IsDualInRange most_nodes dual.now }
@@ -136,9 +136,9 @@ impl StatedCut {
         Ok(())
     }
 
-    /// Adds the dual of a run of so many commodities: its price, and nodes, ascending, with their values.
+    /// Appends the equal duals of a run of commodities: their price, and ascending nodes with their values.
     ///
-    /// The answer is `AllocError` where `add` gives it.
+    /// It fails as `add` does.
     pub fn add_listed(
         &mut self,
         many: u32,
@@ -166,7 +166,7 @@ impl StatedCut {
         Ok(())
     }
 
-    /// Gives back the memory that was taken for duals to come.
+    /// Frees the memory reserved for further duals.
     pub fn trim(&mut self)
         ensures { self.new ≡ self.old }
     {

@@ -1,10 +1,10 @@
-//! What proves that a dual is a Pareto-optimal dual.
+//! The proof that a dual is Pareto-optimal.
 
 ghost use Rattle.std.specs.Prelude.{◌≡◌};
 
 use std::marker::Model;
 
-/// A proof: how many times over the hubs count, the scale, and the ways with how often each is taken.
+/// A proof: its turns (how many times over the hubs count), its scale, and its edges, each with its multiplicity.
 #[derive(Drop)]
 pub struct DualProof {
     turns: u32,
@@ -21,14 +21,14 @@ impl Model for DualProof {
 }
 
 impl DualProof {
-    /// The proof of these turns, this scale and these ways.
+    /// The proof of these turns, this scale and these edges.
     pub fn new(turns: u32, scale: u32, ways: Vec<(u32, u32, u64)>) -> DualProof
         ensures { result ≡ record { turns = turns; scale = scale; ways = ways.items } }
     {
         DualProof { turns, scale, ways }
     }
 
-    /// How many times over the hubs count.
+    /// The turns: how many times over the hubs count.
     pub fn turns(&self) -> u32
         ensures { result ≡ self.now.turns }
     {
@@ -42,7 +42,7 @@ impl DualProof {
         self.scale
     }
 
-    /// The ways, each with how often it is taken.
+    /// The edges (two nodes, equal for a single hub), each with its multiplicity.
     pub fn ways(&self) -> &[(u32, u32, u64)]
         ensures { result.now ≡ self.now.ways }
     {

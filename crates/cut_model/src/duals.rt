@@ -1,4 +1,4 @@
-//! Duals of explicit cuts, lent.
+//! Duals of explicit cuts, borrowed.
 
 ghost use Rattle.std.specs.Prelude.{◌≡◌, ◌<◌, ◌↔◌, length, slice_index_or, IsTrue};
 ghost use Rattle.hub_spec.specs.Limits.{most_nodes};
@@ -8,7 +8,7 @@ ghost use Rattle.cut_model.specs.Values.{listed_values};
 use crate::values::StatedValue;
 use std::marker::Model;
 
-/// The dual values of one commodity as a cut holds them: its price, and nodes, ascending, with their values.
+/// A borrowed dual of one commodity: its price, and ascending nodes with their values, in 10^-12.
 #[derive(Drop)]
 pub struct StatedDual<'a> {
     price: u128,
@@ -37,7 +37,7 @@ impl<'a> StatedDual<'a> {
         StatedDual { price, values }
     }
 
-    /// The price.
+    /// The price, in 10^-12.
     pub fn price(&self) -> u128
         ensures value { result ≡ self.now.a }
         ensures in_range { IsDualInRange most_nodes self.now }
@@ -45,7 +45,7 @@ impl<'a> StatedDual<'a> {
         self.price
     }
 
-    /// How many values are listed.
+    /// The number of listed values.
     pub fn count(&self) -> usize
         ensures value { result ≡ length self.now.u }
         ensures in_range { IsDualInRange most_nodes self.now }
@@ -53,7 +53,7 @@ impl<'a> StatedDual<'a> {
         self.values.len()
     }
 
-    /// The listed node and value of this place.
+    /// The node and the value at this position of the list.
     pub fn value(&self, at: usize) -> (u32, u128)
         requires { at < length self.now.u }
         ensures node { result.0 ≡ (slice_index_or self.now.u at (0, 0)).0 }
@@ -63,7 +63,7 @@ impl<'a> StatedDual<'a> {
         (values[at].node(), values[at].value())
     }
 
-    /// Tells whether the other is the same.
+    /// Tells whether the two duals are equal.
     pub fn is_same(&self, other: &StatedDual<'_>) -> bool
         ensures { IsTrue result ↔ (self.now ≡ other.now) }
     {

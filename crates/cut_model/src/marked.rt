@@ -1,11 +1,11 @@
-//! A cut with its mark.
+//! A cut that is marked Pareto-optimal.
 
 ghost use Rattle.std.specs.Prelude.{◌≡◌};
 
 use crate::{Mark, StatedCut};
 use std::marker::Model;
 
-/// A cut with its mark.
+/// A cut with the mark that proves it Pareto-optimal.
 #[derive(Drop)]
 pub struct MarkedCut {
     /// The cut.

@@ -1,11 +1,11 @@
-//! The mark of a cut.
+//! The mark of a Pareto-optimal cut.
 
 ghost use Rattle.std.specs.Prelude.{◌≡◌};
 
 use crate::dual_proofs::DualProof;
 use std::marker::Model;
 
-/// The mark of a cut: its hubs, ascending, and a proof for each of its duals in order.
+/// The mark of a Pareto-optimal cut: the hubs where it is tight, ascending, and a proof for each of its duals in order.
 #[derive(Drop)]
 pub struct Mark {
     hubs: Vec<u32>,
@@ -21,14 +21,14 @@ impl Model for Mark {
 }
 
 impl Mark {
-    /// The mark of these hubs, with these proofs.
+    /// The mark with these hubs and these proofs.
     pub fn new(hubs: Vec<u32>, proofs: Vec<DualProof>) -> Mark
         ensures { result ≡ record { hubs = hubs.items; proofs = proofs.items } }
     {
         Mark { hubs, proofs }
     }
 
-    /// The hubs.
+    /// The hubs, ascending.
     pub fn hubs(&self) -> &[u32]
         ensures { result.now ≡ self.now.hubs }
     {

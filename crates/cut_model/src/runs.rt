@@ -1,4 +1,4 @@
-//! Runs of commodities with one dual.
+//! Runs of commodities with equal duals.
 
 ghost use Rattle.std.specs.Prelude.{◌≡◌, ◌<◌, ◌++◌, ◌∷◌, [], ◌≤◌, length, take, All, IfOk};
 ghost use Rattle.hub_spec.specs.Cuts.{Prices};

@@ -11,9 +11,10 @@ use hub_model::Instance;
 use std::alloc::{AllocError, Global};
 use std::marker::Model;
 
-/// For each commodity a row of values by unit of flow, a value for each place, in a unit: so many times 10^-6.
+/// Dual values per unit of flow: for each commodity a row, with a value for each candidate, as multiples of `unit`
+/// times 10^-6.
 ///
-/// Any numbers may stand in the rows; what is above the ceiling of lengths counts as the ceiling.
+/// Rows may hold any numbers. What is above the ceiling of lengths counts as the ceiling.
 #[derive(Drop)]
 pub struct Values {
     size: usize,
@@ -34,7 +35,7 @@ impl Model for Values {
 }
 
 impl Values {
-    /// Values in this unit for the instance's commodities and candidates, all 0.
+    /// Zero values in this unit for the instance's commodities and candidates.
     #[tactic(auto, using(hub_model::proofs::CandidateNodes::few_places))]
     pub fn new(alloc: Global, instance: &Instance, unit: u32) -> Result<Values, AllocError>
         ensures none { IfOk result (λ v. v ≡ no_values instance.now.size (length instance.now.candidates) unit) }
@@ -50,7 +51,7 @@ impl Values {
         })
     }
 
-    /// The same values in memory of their own.
+    /// A copy of the values.
     pub fn copy(&self, alloc: Global) -> Result<Values, AllocError>
         ensures { IfOk result (λ v. v ≡ self.now) }
     {
@@ -62,7 +63,7 @@ impl Values {
         })
     }
 
-    /// Makes these the other's values. It takes no memory.
+    /// Overwrites these values with the other's. It allocates nothing.
     pub fn copy_from(&mut self, other: &Values)
         requires { IsSameShape self.old other.now }
         ensures { self.new ≡ other.now }
@@ -70,7 +71,7 @@ impl Values {
         self.items.copy_from_slice(&other.items);
     }
 
-    /// The unit.
+    /// The unit, in 10^-6.
     pub fn unit(&self) -> u32
         ensures { result ≡ self.now.unit }
     {

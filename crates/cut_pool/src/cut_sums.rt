@@ -6,7 +6,7 @@ use hub_model::HubSet;
 use std::alloc::{AllocError, Global};
 use std::marker::Model;
 
-/// What a search keeps of a cut: its hub set, the sum of its prices and, for each node, the sum of its values.
+/// The sums of a cut with its hub set: the total (sum of the prices) and the load of each node (sum of its values).
 ///
 /// The sums are in 10^-12.
 #[derive(Drop)]
@@ -25,7 +25,7 @@ impl Model for CutSums {
 }
 
 impl CutSums {
-    /// The sums of a cut: `loads` has one for each node.
+    /// The sums of a cut. `loads` has one load for each node.
     pub fn new(set: HubSet, total: u128, loads: Vec<u128>) -> CutSums
         ensures { result ≡ record { hubs = set; total = total; loads = loads.items } }
     {
@@ -39,14 +39,14 @@ impl CutSums {
         &self.set
     }
 
-    /// The sum of the prices.
+    /// The total: the sum of the prices, in 10^-12.
     pub fn total(&self) -> u128
         ensures { result ≡ self.now.total }
     {
         self.total
     }
 
-    /// The load of each node: the sum of its values.
+    /// The load of each node (the sum of its values), in 10^-12.
     pub fn loads(&self) -> &[u128]
         ensures { result.now ≡ self.now.loads }
     {
@@ -62,7 +62,7 @@ impl CutSums {
         (self.set, self.total, self.loads)
     }
 
-    /// The same sums again.
+    /// A copy of the sums.
     pub fn copy(&self, alloc: Global) -> Result<CutSums, AllocError>
         ensures { IfOk result (λ copy. copy ≡ self.now) }
     {

@@ -5,20 +5,19 @@ ghost use Rattle.std.specs.Prelude.{◌≡◌};
 use crate::KeptCuts;
 use hub_model::{Plan, TreeLine};
 
-/// A plan with the cuts and the tree that bound what any plan costs: what a search comes to, whether it follows a fixed
-/// rule or none.
+/// The finding of a search: a plan, with the cuts and the tree that bound the cost of every plan from below.
 ///
-/// Cost and bound are in 10^-12. The lines are the tree's in preorder, the open child first; their cuts are counted from
-/// 1. That it is a certificate of an instance is said by `IsProved` in the specs.
+/// The lines are the tree's in preorder, the open child first. Cuts are counted from 1. `IsProved` in the specs says
+/// that it is a certificate of an instance.
 #[derive(Drop)]
 pub struct Found {
     /// The cost of the plan, in 10^-12.
     pub cost: u128,
-    /// What no plan costs less than, in 10^-12.
+    /// The lower bound: no plan costs less, in 10^-12.
     pub bound: u128,
     /// The plan.
     pub plan: Plan,
-    /// The cuts: a search by the rule has those of its pool, one without a rule those that its leaves name.
+    /// The cuts: all of the pool (`solve`, `resolve`), or those that the leaves name (`optimize`).
     pub cuts: KeptCuts,
     /// The lines of the tree.
     pub tree: Vec<TreeLine>,

@@ -1,4 +1,4 @@
-//! Cuts under their numbers.
+//! Stored cuts, by number.
 
 ghost use Rattle.std.specs.Prelude.{◌≡◌, ◌+◌, ◌-◌, ◌≤◌, [], ◌∷◌, ◌++◌, length, map, slice_index, option_map, IfOk, OnOk, OnErr};
 ghost use Rattle.cut_pool.specs.Kept.{kept_of, kept_at, kept_part, kept_mark};
@@ -9,16 +9,16 @@ use hub_model::HubSet;
 use std::alloc::{AllocError, Global};
 use std::marker::Model;
 
-/// What the duals of a cut can be computed again from, or these themselves.
+/// A stored cut: the data from which its duals can be computed again, or the duals themselves.
 #[derive(Drop)]
 pub enum KeptCut {
-    /// Values of the candidates for each commodity.
+    /// Dual values of the candidates for each commodity.
     Values(PackedValues),
     /// A hub set and an order of the other candidates.
     Set(HubSet, Vec<u32>),
     /// A Pareto-optimal cut of a hub set, with its mark.
     Core(MarkedCut),
-    /// A cut that was given with its duals.
+    /// An imported cut, with its duals.
     Given(StatedCut),
 }
 
@@ -35,7 +35,7 @@ impl KeptCut {
         }
     }
 
-    /// The mark of the cut, if it has one.
+    /// The mark that proves the cut Pareto-optimal, if it has one.
     pub fn mark(&self) -> Option<&Mark>
         ensures { option_map (λ m. m.now) result ≡ kept_mark (kept_of self.now) }
     {
@@ -46,8 +46,8 @@ impl KeptCut {
     }
 }
 
-/// The cuts of a search, numbered from 1 in the order in which they were kept, each with its part, its total and its load
-/// of each node.
+/// The stored cuts of a search, numbered from 1 in the order in which they were stored. Each has its part, its total,
+/// and its load of each node.
 #[derive(Drop)]
 pub struct KeptCuts {
     store: CutStore,
@@ -62,7 +62,7 @@ impl Model for KeptCuts {
 }
 
 impl KeptCuts {
-    /// No cuts. It takes no memory.
+    /// No cuts. It allocates nothing.
     pub fn new(alloc: Global) -> KeptCuts
         ensures { result ≡ record { cuts = []; totals = []; loads = [] } }
     {
@@ -71,14 +71,14 @@ impl KeptCuts {
         }
     }
 
-    /// The cuts of a store, numbered as they stand there. It takes no memory.
+    /// The cuts of a store, numbered in its order. It allocates nothing.
     pub fn of(store: CutStore) -> KeptCuts
         ensures { result ≡ store.kept }
     {
         KeptCuts { store }
     }
 
-    /// Keeps the cut with these sums, under the next number. Where memory runs out nothing is kept.
+    /// Stores the cut with these sums, under the next number. Where memory runs out, nothing is stored.
     pub fn keep(
         &mut self,
         alloc: Global,
@@ -100,14 +100,14 @@ impl KeptCuts {
         Ok(self.store.len() as u64)
     }
 
-    /// How many there are.
+    /// The number of cuts.
     pub fn len(&self) -> u64
         ensures { result ≡ length self.now.cuts }
     {
         self.store.len() as u64
     }
 
-    /// The cut of this number, counted from 1.
+    /// The cut with this number, counted from 1.
     pub fn cut(&self, c: u64) -> &KeptCut
         requires least { 1 ≤ c }
         requires most { c ≤ length self.now.cuts }
@@ -116,7 +116,7 @@ impl KeptCuts {
         &self.store.cuts()[(c - 1) as usize]
     }
 
-    /// The part of each, in the order of their numbers.
+    /// The part of each cut, by number.
     pub fn parts(&self) -> &[u32]
         ensures value { result.now ≡ map kept_part self.now.cuts }
         ensures long { length result.now ≡ length self.now.cuts }
@@ -124,7 +124,7 @@ impl KeptCuts {
         self.store.parts()
     }
 
-    /// The total of each, in 10^-12, in the order of their numbers.
+    /// The total of each cut, in 10^-12, by number.
     pub fn totals(&self) -> &[u128]
         ensures value { result.now ≡ self.now.totals }
         ensures long { length result.now ≡ length self.now.cuts }
@@ -132,7 +132,7 @@ impl KeptCuts {
         self.store.totals()
     }
 
-    /// The load of each node in each, in 10^-12, in the order of their numbers.
+    /// The loads of each cut, one for each node, in 10^-12, by number.
     pub fn loads(&self) -> &[Vec<u128>]
         ensures value { map (λ v. v.items) result.now ≡ self.now.loads }
         ensures long { length result.now ≡ length self.now.cuts }

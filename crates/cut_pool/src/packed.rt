@@ -1,4 +1,4 @@
-//! Values with the zeros left out.
+//! Dual values without their zeros.
 
 ghost use Rattle.std.specs.Prelude.{◌≡◌, ◌*◌, ◌<◌, ◌≤◌, [], ◌∷◌, ◌++◌, length, slice_set, IfOk, OnOk};
 ghost use Rattle.hub_spec.specs.Limits.{most_nodes};
@@ -51,7 +51,8 @@ impl Item {
     }
 }
 
-/// The values of all commodities, for each origin in a list of those above 0. It is seen as `Values` are.
+/// The dual values of all commodities in sparse form: for each origin a list of those above 0. It is seen as `Values`
+/// are.
 #[derive(Drop)]
 pub struct PackedValues {
     size: usize,
@@ -72,7 +73,7 @@ impl Model for PackedValues {
 }
 
 impl PackedValues {
-    /// The same values, which are the instance's, packed.
+    /// The instance's values in sparse form.
     #[tactic(auto, using(crate::proofs::Packing::small_cells))]
     pub fn pack(
         alloc: Global,
@@ -93,14 +94,14 @@ impl PackedValues {
         })
     }
 
-    /// The unit.
+    /// The unit, in 10^-6.
     pub fn unit(&self) -> u32
         ensures { result ≡ self.now.unit }
     {
         self.unit
     }
 
-    /// Writes the rows of all commodities from `i`, one after another. It takes no memory.
+    /// Writes the rows of all commodities from `i`, one after another. It allocates nothing.
     pub fn unpack_origin(&self, i: u32, rows: &mut [u32])
         requires origin { i < self.now.size }
         requires long { length rows.old ≡ self.now.size * self.now.places }

@@ -1,4 +1,4 @@
-//! Hub sets in order.
+//! The index of hub sets, in sorted order.
 
 ghost use Rattle.std.specs.Prelude.{◌≡◌, ◌≢◌, ℕ, ◌+◌, ◌^◌, ◌<◌, ◌≤◌, List, [], ◌∷◌, ◌++◌, Some, length, map, All};
 ghost use Rattle.cut_pool.specs.Kept.{kept_of, kept_set};

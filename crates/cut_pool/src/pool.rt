@@ -1,4 +1,4 @@
-//! Cuts under their numbers.
+//! The cut pool.
 
 ghost use Rattle.std.specs.Prelude.{◌≡◌, ℕ, ◌+◌, ◌<◌, ◌≤◌, List, [], ◌∷◌, ◌++◌, Some, length, map, slice_index, IfSome, IfNone, IsOk, IfOk, OnOk, OnErr, IfErr};
 ghost use Rattle.hub_spec.specs.Limits.{most_nodes};
@@ -22,10 +22,10 @@ use std::marker::Model;
 // The most cuts of a pool: their numbers are below 2^32.
 const MOST_KEPT: u64 = 4_294_967_295;
 
-/// The cuts of a search, numbered from 1 in the order in which they were added: separated cuts and Pareto-optimal cuts, no
-/// two of one hub set, and cuts that were given with their duals, which are of no hub set.
+/// The cut pool of a search, numbered from 1 in the order in which cuts were added. Separated and Pareto-optimal cuts
+/// are cuts of hub sets, no two of one set. Imported cuts belong to no hub set.
 ///
-/// A pool is seen as its entries, with how many more can be added for certain.
+/// A pool is seen as its entries, with the number of cuts that can be added for certain.
 #[derive(Drop)]
 pub struct Pool {
     cuts: CutStore,
@@ -51,7 +51,7 @@ impl Model for Pool {
     ghost invariant = { IsPool };
 }
 
-/// A cut that was not added, since memory was wanting, with its order.
+/// A cut that was not added because memory ran out, with its order.
 #[derive(Drop)]
 pub struct Refused {
     /// The cut.
@@ -61,7 +61,7 @@ pub struct Refused {
 }
 
 impl Pool {
-    /// A pool with no cut. It takes no memory.
+    /// An empty pool. It allocates nothing.
     pub fn new(alloc: Global) -> Result<Pool, AllocError>
         ensures empty { IfOk result (λ p. p.entries ≡ []) }
         ensures succeeds { IsOk result }
@@ -75,10 +75,10 @@ impl Pool {
         })
     }
 
-    /// Takes memory for this many more cuts, so that adding them is sure to succeed.
+    /// Reserves memory for this many more cuts, so that adding them is certain to succeed.
     ///
-    /// As they are added, memory may still be asked for the short loads, which are given up where it is wanting. A pool
-    /// has at most 2^32 - 1 cuts: more are refused as want of memory.
+    /// Adding may still allocate for the short loads, which are dropped where that fails. A pool has at most 2^32 - 1
+    /// cuts; more fail as if memory ran out.
     pub fn reserve(&mut self, cuts: u64) -> Result<(), AllocError>
         ensures entries { self.new.entries ≡ self.old.entries }
         ensures spare { OnOk result (cuts ≤ self.new.spare) }
@@ -107,9 +107,9 @@ impl Pool {
         (MOST_KEPT - self.cuts.len() as u64).min(room as u64)
     }
 
-    /// The number of the cut of this hub set, if there is one. It takes no memory.
+    /// The number of the cut of this hub set, if there is one. It allocates nothing.
     ///
-    /// No two cuts are of one hub set, so the number is the only one.
+    /// No two cuts are of one hub set, so the number is unique.
     pub fn find(&self, set: &HubSet) -> Option<u64>
         ensures some { IfSome result (IsNumberOf self.now.entries set.now) }
         ensures only { IfSome result (λ c. (x : ℕ) → IsNumberOf self.now.entries set.now x → x ≡ c) }
@@ -127,11 +127,11 @@ impl Pool {
         Some(u64::from(place) + 1)
     }
 
-    /// Adds the cut of a hub set that has none yet, with the order of the other candidates that it was worked out over,
-    /// and gives its number, the next one.
+    /// Adds the cut of a hub set that has none yet, with the order of the other candidates over which it was separated.
+    /// It returns the cut's number, the next one.
     ///
-    /// Cut and order come back where memory is wanting, or where the pool has all the cuts that it can number. With room
-    /// for one more it is sure to succeed: the short loads may still ask for memory, and are given up where it is wanting.
+    /// Cut and order come back where memory runs out, or where the pool is full. With memory reserved for one more it
+    /// is certain to succeed. The short loads may still allocate, and are dropped where that fails.
     pub fn add(&mut self, cut: CutSums, order: Vec<u32>) -> Result<u64, Refused>
         requires { Lacks self.old.entries cut.hubs }
         ensures number { IfOk result (λ c. c ≡ length self.old.entries + 1) }
@@ -157,10 +157,10 @@ impl Pool {
         Ok(place as u64 + 1)
     }
 
-    /// Adds the Pareto-optimal cut of a hub set that has no cut yet, between `size` nodes, and gives its number, the next one.
+    /// Adds the Pareto-optimal cut of a hub set that has no cut yet, on `size` nodes. It returns the cut's number, the
+    /// next one.
     ///
-    /// The cut comes back where memory is wanting, or where the pool has all the cuts that it can number, and its cuts stay
-    /// as they were.
+    /// The cut comes back where memory runs out, or where the pool is full. The pool's cuts are then unchanged.
     pub fn add_core(&mut self, alloc: Global, size: u32, cut: MarkedCut) -> Result<u64, MarkedCut>
         requires first_time { Lacks self.old.entries cut.mark.hubs }
         requires size { size ≤ most_nodes }
@@ -181,11 +181,10 @@ impl Pool {
         }
     }
 
-    /// Adds a cut that was given with its duals, between `size` nodes, and gives its number, the next one. No hub set finds
-    /// it.
+    /// Adds an imported cut with its duals, on `size` nodes. It returns the cut's number, the next one. `find` never
+    /// returns it.
     ///
-    /// The cut comes back where memory is wanting, or where the pool has all the cuts that it can number, and its cuts stay
-    /// as they were.
+    /// The cut comes back where memory runs out, or where the pool is full. The pool's cuts are then unchanged.
     pub fn add_given(&mut self, alloc: Global, size: u32, cut: StatedCut) -> Result<u64, StatedCut>
         requires size { size ≤ most_nodes }
         requires duals { IsCutInRange size cut }
@@ -232,7 +231,7 @@ impl Pool {
         Ok(place as u64 + 1)
     }
 
-    /// How many cuts there are.
+    /// The number of cuts.
     pub fn len(&self) -> u64
         ensures { result ≡ length self.now.entries }
     {
@@ -256,7 +255,7 @@ impl Pool {
         self.cuts.loads()[(c - 1) as usize][k as usize]
     }
 
-    /// What the duals of cut `c` can be made from.
+    /// The data from which the duals of cut `c` can be made.
     pub fn cut(&self, c: u64) -> &KeptCut
         requires { IsNumber self.now.entries c }
         ensures { kept_of result.now ≡ (entry_at self.now.entries c).cut }
@@ -264,35 +263,35 @@ impl Pool {
         &self.cuts.cuts()[(c - 1) as usize]
     }
 
-    /// The part of each cut, in the order of their numbers: 1 but for Pareto-optimal cuts and given ones.
+    /// The part of each cut, by number: 1 for all but Pareto-optimal and imported cuts.
     pub fn parts(&self) -> &[u32]
         ensures { result.now ≡ map entry_part self.now.entries }
     {
         self.cuts.parts()
     }
 
-    /// The total of each cut, in 10^-12, in the order of their numbers.
+    /// The total of each cut, in 10^-12, by number.
     pub fn totals(&self) -> &[u128]
         ensures { result.now ≡ map (λ e. e.total) self.now.entries }
     {
         self.cuts.totals()
     }
 
-    /// The loads of each cut, in 10^-12, in the order of their numbers.
+    /// The loads of each cut, in 10^-12, by number.
     pub fn loads(&self) -> &[Vec<u128>]
         ensures { map (λ v. v.items) result.now ≡ map (λ e. e.loads) self.now.entries }
     {
         self.cuts.loads()
     }
 
-    /// The total of each cut for one unit of its part, in 10^-12, rounded down, in the order of their numbers.
+    /// The total of each cut divided by its part, in 10^-12, rounded down, by number.
     pub fn unit_totals(&self) -> &[u128]
         ensures { result.now ≡ unit_totals self.now.entries }
     {
         self.units.totals()
     }
 
-    /// The loads of each cut for one unit of its part, in 10^-12, rounded down, in the order of their numbers.
+    /// The loads of each cut divided by its part, in 10^-12, rounded down, by number.
     pub fn unit_loads(&self, alloc: Global) -> Result<Vec<&[u128]>, AllocError>
         ensures { IfOk result (λ rows. map (λ row. row.now) rows.items ≡ unit_loads self.now.entries) }
     {
@@ -312,26 +311,26 @@ impl Pool {
         for_one_unit(part, &self.cuts.loads()[place], &self.units.rows()[place])
     }
 
-    /// The greatest load of a Pareto-optimal cut or a given one for one unit of its part, in 10^-12, rounded down: 0 if
-    /// there is none.
+    /// The greatest load of an explicit cut (Pareto-optimal or imported) divided by its part, in 10^-12, rounded down.
+    /// It is 0 without such cuts.
     pub fn most_stated(&self) -> u128
         ensures { result ≡ most_stated self.now.entries }
     {
         self.most_load
     }
 
-    /// The loads for one unit of each cut's part in 32 bits, if they are kept: a row for each node, with one number for each
-    /// cut.
+    /// The loads of the cuts divided by their parts, in 32 bits, if the pool has them: a row for each node, with one
+    /// number for each cut.
     ///
-    /// They are given up for good where a cut has loads of more or fewer nodes than those before, and where memory for
-    /// them is wanting as a cut is added.
+    /// They are dropped for good where a cut has loads of more or fewer nodes than those before, or where memory for
+    /// them runs out.
     pub fn short_loads(&self) -> Option<&ShortLoads>
         ensures { IfSome result (λ s. AreShortLoads self.now.entries s.now) }
     {
         self.short.as_ref()
     }
 
-    /// The cuts, as a finding has them. It takes no memory.
+    /// The stored cuts of the pool. It allocates nothing.
     pub fn into_cuts(self) -> KeptCuts
         ensures cuts { result.cuts ≡ map (λ e. e.cut) self.entries }
         ensures totals { result.totals ≡ map (λ e. e.total) self.entries }

@@ -12,9 +12,9 @@ const MOST_SHORT: u128 = 0x7fff_ffff;
 // How many halvings bring each number of 128 bits to 31 bits.
 const MOST_HALVINGS: u32 = 97;
 
-/// The loads of cuts in 32 bits: a row for each node, which has one number for each cut in the order of numbers.
+/// The loads of cuts in 32 bits: a row for each node, with one number for each cut, by number.
 ///
-/// All loads are halved equally often, each halving rounded down, so that each of them fits 31 bits.
+/// All loads are halved equally often, each time rounded down, until they fit 31 bits.
 #[derive(Drop)]
 pub struct ShortLoads {
     halvings: u32,
@@ -45,7 +45,7 @@ impl ShortLoads {
         }
     }
 
-    /// How often each load is halved.
+    /// How often each load was halved.
     pub fn halvings(&self) -> u32
         ensures value { result ≡ self.now.halvings }
         ensures few { result < 128 }
@@ -53,7 +53,7 @@ impl ShortLoads {
         self.halvings
     }
 
-    /// The rows: one for each node, with a number for each cut.
+    /// The rows, one for each node, with a number for each cut.
     pub fn rows(&self) -> &[Vec<u32>]
         ensures { map (λ v. v.items) result.now ≡ self.now.rows }
     {

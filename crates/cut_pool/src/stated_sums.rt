@@ -1,4 +1,4 @@
-//! The sums of a cut that is kept with its duals.
+//! The sums of an explicit cut.
 
 ghost use Rattle.std.specs.Prelude.{◌≡◌, ◌/◌, ◌≤◌, map, IfOk};
 ghost use Rattle.hub_spec.specs.Cuts.{total};

@@ -1,4 +1,4 @@
-//! Cuts side by side with their sums, and room for more.
+//! Cuts with their sums, in parallel lists, and reserved memory for more.
 
 ghost use Rattle.std.specs.Prelude.{◌≡◌, ◌+◌, ◌≤◌, [], ◌∷◌, ◌++◌, length, map, IsOk, OnOk};
 ghost use Rattle.cut_pool.specs.Kept.{kept_of, kept_part};
@@ -7,10 +7,9 @@ use crate::KeptCut;
 use std::alloc::{AllocError, Global};
 use std::marker::Model;
 
-/// The cuts of a search in the order in which they were put, each with its part, its total and its load of each
-/// node.
+/// The cuts of a search in the order in which they were put. Each has its part, its total, and its load of each node.
 ///
-/// A store is seen as these, with how many more can be put for certain.
+/// A store is seen as these, with the number of cuts that can be put for certain.
 #[derive(Drop)]
 pub struct CutStore {
     cuts: Vec<KeptCut>,
@@ -31,7 +30,7 @@ impl Model for CutStore {
 }
 
 impl CutStore {
-    /// No cuts. It takes no memory.
+    /// No cuts. It allocates nothing.
     pub fn new(alloc: Global) -> CutStore
         ensures { result.kept ≡ record { cuts = []; totals = []; loads = [] } }
     {
@@ -43,7 +42,7 @@ impl CutStore {
         }
     }
 
-    /// Takes memory for this many more cuts, so that they can be put.
+    /// Reserves memory for this many more cuts.
     pub fn reserve(&mut self, more: usize) -> Result<(), AllocError>
         ensures kept { self.new.kept ≡ self.old.kept }
         ensures spare { OnOk result (more ≤ self.new.spare) }
@@ -56,7 +55,7 @@ impl CutStore {
         self.loads.reserve(more)
     }
 
-    /// How many more can be put for certain.
+    /// The number of cuts that can still be put for certain.
     pub fn spare(&self) -> usize
         ensures { result ≡ self.now.spare }
     {
@@ -66,7 +65,7 @@ impl CutStore {
             .min(self.loads.capacity() - self.loads.len())
     }
 
-    /// Puts a cut with its total and its loads, for which there is room, at the end. It takes no memory.
+    /// Appends a cut with its total and its loads, for which memory is reserved. It allocates nothing.
     pub fn put(&mut self, cut: KeptCut, total: u128, loads: Vec<u128>)
         requires spare { 1 ≤ self.old.spare }
         ensures kept { self.new.kept ≡ record {
@@ -82,7 +81,7 @@ impl CutStore {
         self.loads.push_reserved(loads);
     }
 
-    /// How many there are.
+    /// The number of cuts.
     pub fn len(&self) -> usize
         ensures { result ≡ length self.now.kept.cuts }
     {
@@ -97,7 +96,7 @@ impl CutStore {
         &self.cuts
     }
 
-    /// The part of each.
+    /// The part of each cut.
     pub fn parts(&self) -> &[u32]
         ensures value { result.now ≡ map kept_part self.now.kept.cuts }
         ensures long { length result.now ≡ length self.now.kept.cuts }
@@ -105,7 +104,7 @@ impl CutStore {
         &self.parts
     }
 
-    /// The total of each, in 10^-12.
+    /// The total of each cut, in 10^-12.
     pub fn totals(&self) -> &[u128]
         ensures value { result.now ≡ self.now.kept.totals }
         ensures long { length result.now ≡ length self.now.kept.cuts }
@@ -113,7 +112,7 @@ impl CutStore {
         &self.totals
     }
 
-    /// The load of each node in each, in 10^-12.
+    /// The loads of each cut, one for each node, in 10^-12.
     pub fn loads(&self) -> &[Vec<u128>]
         ensures value { map (λ v. v.items) result.now ≡ self.now.kept.loads }
         ensures long { length result.now ≡ length self.now.kept.cuts }

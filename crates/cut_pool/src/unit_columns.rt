@@ -1,4 +1,4 @@
-//! Totals and loads for one unit of the parts of cuts.
+//! Totals and loads of cuts divided by their parts.
 
 ghost use Rattle.std.specs.Prelude.{◌≡◌, ◌+◌, ◌/◌, ◌≤◌, [], ◌∷◌, ◌++◌, length, map, IsOk, IfOk, OnOk};
 ghost use Rattle.cut_pool.specs.Entries.{most_unit};

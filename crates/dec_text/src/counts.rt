@@ -3,7 +3,7 @@ ghost use Rattle.text_spec.specs.Numbers.{count_value};
 
 use crate::digits::{are_all_digits, value_after};
 
-/// Reads a count from `least` to `most`: digits alone, with no zero before others.
+/// Reads a count from `least` to `most`: digits alone, without leading zeros. `None` for anything else.
 #[tactic(auto, unfolding(text_spec::specs::Numbers::count_value))]
 pub fn read_count(text: &str, least: u64, most: u64) -> Option<u64>
     ensures { result ≡ count_value least most text.now }

@@ -11,12 +11,13 @@ const LONGEST_TOKEN: usize = 40;
 
 const LONGEST_EXPONENT: usize = 3;
 
-/// The token is no number, or more than 40 bytes long.
+/// The token is no number, or is longer than 40 bytes.
 #[derive(Clone, Copy, Debug, PartialEq, Eq, Error)]
 #[error("not a number")]
 pub struct BadNumber;
 
-/// Reads a decimal such as `-12.5e+3`, in units of 10^-places, cut toward zero, and at most 10^30 either way.
+/// Reads a decimal such as `-12.5e+3`, in units of 10^-places, truncated toward zero. Its absolute value is at most
+/// 10^30.
 ///
 /// It has an optional sign, digits with an optional point before, among or after them, and optionally `e` or `E` with
 /// an optional sign and one to three digits.

@@ -12,15 +12,15 @@ const ROOM: usize = 40;
 // The most places for which ten to that power is a `u128`.
 const MOST_PLACES: u32 = 38;
 
-/// Puts a number in decimal digits, behind a minus where it is below 0, as one put.
+/// Puts a number in decimal digits, with a minus where it is negative, as one put.
 pub fn put_number<K: Sink>(value: i128, sink: &mut K) -> Result<(), Failed>
     ensures { Puts K.taken K.faults sink.old sink.new result (signed_decimal value) }
 {
     sink.put(itoa::Buffer::new().format(value).as_bytes())
 }
 
-/// Puts a number in units of 10^-places: its whole part, a point, and just so many decimals,
-/// or a 0 where there are to be none.
+/// Puts a number in units of 10^-places: its whole part, a point, and exactly `places` decimals. Where `places` is 0,
+/// one 0 follows the point.
 pub fn put_fixed<K: Sink>(value: i128, places: u32, sink: &mut K) -> Result<(), Failed>
     requires { pos 0 ≤ℤ value }
     ensures { Puts K.taken K.faults sink.old sink.new result (fixed_text places (nat_abs value)) }
@@ -44,7 +44,7 @@ pub(crate) fn put_with_point<K: Sink>(
     put_decimals(decimals, places, buffer, sink)
 }
 
-/// Puts a space and a number in decimal digits through a buffer, which the caller finishes, as one put on the buffer.
+/// Puts a space and a number in decimal digits into a buffer, which the caller finishes.
 pub fn put_after_space<K: Sink>(
     value: u128,
     buffer: &mut Buffer,

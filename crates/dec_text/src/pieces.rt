@@ -10,16 +10,16 @@ use hub_io::{Buffer, Failed, Sink};
 pub enum Piece<'a> {
     /// The bytes themselves.
     Text(&'a [u8]),
-    /// A number in decimal digits, behind a minus where it is below 0.
+    /// A number in decimal digits, with a minus where it is negative.
     Number(i128),
     /// A number in decimal digits.
     Count(u128),
-    /// A number in units of 10^-places: its whole part, a point, and just so many decimals,
-    /// or a 0 where there are to be none.
+    /// A number in units of 10^-places: its whole part, a point, and exactly `places` decimals. Where `places` is 0,
+    /// one 0 follows the point.
     Fixed { value: u128, places: u32 },
 }
 
-/// Puts the pieces one behind the other, as one put on the sink where they have at most 8192 bytes together.
+/// Puts the pieces one after another, as one put on the sink where they have at most 8192 bytes together.
 pub fn put_line<K: Sink>(pieces: &[Piece<'_>], sink: &mut K) -> Result<(), Failed>
     ensures { Puts K.taken K.faults sink.old sink.new result (line_of pieces.now) }
 {
@@ -28,7 +28,7 @@ pub fn put_line<K: Sink>(pieces: &[Piece<'_>], sink: &mut K) -> Result<(), Faile
     buffer.finish(sink)
 }
 
-/// Puts the pieces one behind the other through a buffer, which the caller finishes.
+/// Puts the pieces one after another through a buffer, which the caller finishes.
 pub fn put_pieces<K: Sink>(
     pieces: &[Piece<'_>],
     buffer: &mut Buffer,

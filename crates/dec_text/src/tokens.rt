@@ -2,8 +2,9 @@ ghost use Rattle.std.specs.Prelude.{◌≡◌, ℕ, ◌-◌, ◌<◌, ◌≤◌,
 ghost use Rattle.std.specs.List.{prefix_len, position_or_len};
 ghost use Rattle.text_spec.specs.Tokens.{is_separator, mark_length, runs, tokens_of};
 
-/// The tokens of a file, each with its place in bytes from the file's start: the maximal runs of bytes that are no
-/// space, tab, carriage return, line feed, comma or semicolon. A byte order mark at the start belongs to no token.
+/// The tokens of a file, each with its position in bytes from the file's start. Tokens are the maximal runs of bytes
+/// that are no space, tab, carriage return, line feed, comma or semicolon. A byte order mark at the start belongs to no
+/// token.
 #[derive(Drop)]
 pub struct Tokens<'a> {
     bytes: &'a [u8],

@@ -1,4 +1,4 @@
-//! Partners: they share turns that are counted.
+//! Peers: workers that share numbered tasks.
 
 ghost use Rattle.std.specs.Prelude.{◌≡◌, All, IfOk, IfSome, OnOk};
 ghost use Rattle.std.specs.Arc.{arc_value};
@@ -18,7 +18,8 @@ const MOST_LOOKS: u32 = 1 << 24;
 // After so many looks a partner lets another thread run.
 const LOOKS_AT_ONCE: u32 = 64;
 
-/// One of several who do the same, of which each turn is worked out by one of them alone, who tells it to the others.
+/// A peer. Several peers run one computation; each task of it is computed by one peer, who sends the result to the
+/// others.
 ///
 /// It is seen as the key of its desk.
 #[derive(Drop)]
@@ -43,7 +44,7 @@ impl<'t, K: Drop, T: Told<K> + Drop> Model for Partner<'t, K, T> {
 }
 
 impl<'t, K: Copy + Drop, T: Told<K> + Drop> Partner<'t, K, T> {
-    /// The partner at this desk, with a first number drawn.
+    /// The peer at this desk, with its first task number drawn.
     pub fn new(alloc: Global, tickets: &'t Tickets, desk: Desk<K, T>) -> Partner<'t, K, T>
         ensures { result ≡ desk }
     {
@@ -55,12 +56,13 @@ impl<'t, K: Copy + Drop, T: Told<K> + Drop> Partner<'t, K, T> {
         }
     }
 
-    /// The number that it has drawn: the turn that this stands for among the partners is for it to work out and to tell.
+    /// The task number that it has drawn. The peers agree which task it means; this peer computes the task and sends
+    /// the result.
     pub fn ticket(&self) -> u64 {
         self.ticket
     }
 
-    /// Tells what a turn came to that it worked out, and draws another number.
+    /// Sends the result of a task that it computed, and draws the next task number.
     pub fn tell(&mut self, alloc: Global, told: T) -> Result<(), AllocError>
         requires holds { T.holds self.old told }
         ensures { self.new ≡ self.old }
@@ -72,7 +74,8 @@ impl<'t, K: Copy + Drop, T: Told<K> + Drop> Partner<'t, K, T> {
         Ok(())
     }
 
-    /// What this turn came to, once it is told; none if that takes too long, or another partner is done, who heard all.
+    /// Waits for the result of this task. `None` after 2^24 polls, or once another peer is done, having received every
+    /// result. `AllocError` means that memory ran out or that a peer gave up.
     pub fn awaited(&mut self, turn: u64) -> Result<Option<Arc<T, Global>>, AllocError>
         ensures key { self.new ≡ self.old }
         ensures holds { IfOk result (λ r. IfSome r (λ a. T.holds self.old (arc_value a))) }

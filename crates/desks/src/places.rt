@@ -1,4 +1,4 @@
-//! Desks.
+//! Desks: the ends of the rings.
 
 ghost use Rattle.std.specs.Prelude.{◌≡◌, length, All, IfOk, IfSome};
 ghost use Rattle.std.specs.Arc.{arc_value};
@@ -14,7 +14,7 @@ use std::sync::Arc;
 // How many items may lie between two desks. Where more are told they are lost.
 const ROOM: usize = 64;
 
-/// A thread's desk, with a way to and from each other desk of the same key.
+/// A thread's desk, with a ring to and from each other desk of its key.
 ///
 /// It is seen as its key.
 #[derive(Drop)]
@@ -47,7 +47,7 @@ impl<K: Copy + Drop, T: Told<K> + Drop> Desk<K, T> {
         }
     }
 
-    /// Tells the item to all other desks.
+    /// Sends the item to all other desks. It is lost where a ring is full.
     pub fn tell(&mut self, item: &Arc<T, Global>) -> Result<(), AllocError>
         requires holds { T.holds self.old (arc_value item.now) }
         ensures { self.new ≡ self.old }
@@ -59,7 +59,7 @@ impl<K: Copy + Drop, T: Told<K> + Drop> Desk<K, T> {
         Ok(())
     }
 
-    /// Adds all that others have told since to these items.
+    /// Appends the items received from other desks to `items`.
     pub fn hear(&mut self, items: &mut Vec<Arc<T, Global>>) -> Result<(), AllocError>
         requires held { All (λ a. T.holds self.old (arc_value a)) items.old.items }
         ensures key { self.new ≡ self.old }
@@ -144,7 +144,7 @@ fn link_both<K: Copy + Drop, T: Told<K> + Drop>(
     link(alloc, one.key, &mut other.to, &mut one.from)
 }
 
-/// So many desks of this key, each with a way to each other.
+/// As many desks of this key as `count`, with a ring for each ordered pair.
 pub fn desks<K: Copy + Drop, T: Told<K> + Drop>(
     alloc: Global,
     key: K,

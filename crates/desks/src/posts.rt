@@ -1,4 +1,4 @@
-//! What lies between two desks.
+//! The messages between two desks.
 
 ghost use Rattle.desks.specs.Posts.{Follows};
 
@@ -7,16 +7,16 @@ use rtrb::Protocol;
 use std::alloc::Global;
 use std::sync::Arc;
 
-/// What goes from one desk to another: first the key, and then items.
+/// A message between two desks: first the key, and then items.
 #[derive(Drop)]
 pub enum Post<K, T> {
     /// The key.
     Key(K),
-    /// An item, which several may hold.
+    /// An item, which several desks may hold.
     Item(Arc<T, Global>),
 }
 
-/// The rule of what may go: each item holds under the key that went first.
+/// The protocol of a ring: each item holds under the key that was sent first.
 #[derive(Clone, Copy)]
 pub struct OfOneKey;
 

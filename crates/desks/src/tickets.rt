@@ -1,8 +1,8 @@
-//! Turns by their numbers.
+//! Task numbers.
 
 use std::sync::atomic::{AtomicBool, AtomicU64, Ordering};
 
-/// What partners share: the number of the next turn, whether one of them is done, and whether one gave up.
+/// What peers share: the next task number, whether one of them is done, and whether one gave up.
 #[derive(Drop)]
 pub struct Tickets {
     next: AtomicU64,
@@ -11,7 +11,7 @@ pub struct Tickets {
 }
 
 impl Tickets {
-    /// No turn is drawn as yet. They are counted from 0.
+    /// Task numbers from 0, none of them drawn yet.
     pub fn new() -> Tickets {
         Tickets {
             next: AtomicU64::new(0),
@@ -24,7 +24,7 @@ impl Tickets {
         self.next.fetch_add(1, Ordering::SeqCst)
     }
 
-    /// One is done: it heard of all turns, and nobody draws another for the others.
+    /// Records that a peer is done: it received every result, and draws no further task for the others.
     pub fn finish(&self) {
         self.done.store(true, Ordering::SeqCst);
     }
@@ -33,7 +33,7 @@ impl Tickets {
         self.done.load(Ordering::SeqCst)
     }
 
-    /// One gave up, so that all give up.
+    /// Records that a peer gave up, so that all give up.
     pub fn end(&self) {
         self.over.store(true, Ordering::SeqCst);
     }

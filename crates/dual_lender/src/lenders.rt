@@ -1,4 +1,4 @@
-//! Duals of stored cuts, lent one at a time.
+//! Duals of stored cuts, one at a time.
 
 ghost use Rattle.std.specs.Prelude.{◌≡◌, ◌+◌, ◌*◌, ◌<◌, ◌≤◌, ◌↔◌, pos, length, IfOk, IsTrue};
 ghost use Rattle.hub_spec.specs.Problem.{IsProblem};
@@ -18,11 +18,10 @@ use pareto_cuts::Scratch;
 use std::alloc::{AllocError, Global};
 use std::marker::Model;
 
-/// Room to make the duals of an instance's stored cuts in, taken once, from which one dual at a time is lent.
+/// A workspace that makes the duals of an instance's stored cuts, one at a time. It is allocated once.
 ///
-/// It is told the cut first, then an origin, then each destination. The dual of a cut that is kept with its duals, a
-/// Pareto-optimal cut or a given one, is unpacked when it is made. A second dual can be held, so that the one made last is
-/// compared with it. No call takes memory.
+/// It takes the cut first, then an origin, then each destination. The dual of an explicit cut (Pareto-optimal or
+/// imported) is copied. A second dual can be held, to be compared with the one made last. Only `new` allocates.
 #[derive(Drop)]
 pub struct DualLender<'a> {
     values: ValueRoom<'a>,
@@ -44,7 +43,7 @@ impl<'a> Model for DualLender<'a> {
 }
 
 impl<'a> DualLender<'a> {
-    /// Room for the instance.
+    /// A workspace for the instance.
     pub fn new(alloc: Global, instance: &'a Instance) -> Result<DualLender<'a>, AllocError>
         ensures { IfOk result (IsLenderFor instance.now) }
     {
@@ -59,7 +58,7 @@ impl<'a> DualLender<'a> {
         })
     }
 
-    /// Makes ready for the duals of the cut.
+    /// Prepares the duals of the cut.
     pub fn begin(&mut self, instance: &Instance, kept: &KeptCut)
         requires lender { IsLenderFor instance.now self.old }
         requires fits { IsKeptFor instance.now (kept_of kept.now) }
@@ -71,7 +70,7 @@ impl<'a> DualLender<'a> {
         }
     }
 
-    /// Works out what the duals of all commodities from `i` are made from.
+    /// Prepares the duals of all commodities from `i`.
     pub fn work_out(&mut self, instance: &Instance, kept: &KeptCut, i: u32)
         requires fits { IsKeptFor instance.now (kept_of kept.now) }
         requires ready { IsReady instance.now (kept_of kept.now) self.old }
@@ -103,7 +102,8 @@ impl<'a> DualLender<'a> {
         }
     }
 
-    /// The price of the dual that was made last of the cut, and its nodes with their values, ascending.
+    /// The dual of the cut that was made last: its price, and its nodes with their values, ascending. All are in
+    /// 10^-12.
     pub fn dual<'d>(&'d self, kept: &'d KeptCut) -> (i128, &'d [(u32, i128)])
         ensures price { result.0 ≡ pos (made_dual (kept_of kept.now) self.now).a }
         ensures values { result.1.now ≡ signed_values (made_dual (kept_of kept.now) self.now).u }
@@ -112,7 +112,7 @@ impl<'a> DualLender<'a> {
         last_made(&self.values, &self.sets, &self.stated, kept)
     }
 
-    /// Holds the dual that was made last of the cut, in place of the one that was held.
+    /// Holds the dual of the cut that was made last, instead of the one held so far.
     pub fn hold(&mut self, kept: &KeptCut)
         requires few { length (made_dual (kept_of kept.now) self.old).u ≤ self.old.values.problem.size }
         ensures { self.new ≡ record self.old { held = made_dual (kept_of kept.now) self.old } }
@@ -121,7 +121,7 @@ impl<'a> DualLender<'a> {
         self.held.copy(a, u);
     }
 
-    /// Tells whether the dual that was made last of the cut is the one that is held.
+    /// Tells whether the dual of the cut that was made last equals the one that is held.
     pub fn holds(&self, kept: &KeptCut) -> bool
         ensures { IsTrue result ↔ (self.now.held ≡ made_dual (kept_of kept.now) self.now) }
     {
@@ -129,7 +129,7 @@ impl<'a> DualLender<'a> {
         self.held.is(a, u)
     }
 
-    /// The price of the dual that is held, and its nodes with their values, ascending.
+    /// The dual that is held: its price, and its nodes with their values, ascending. All are in 10^-12.
     pub fn held(&self) -> (i128, &[(u32, i128)])
         ensures price { result.0 ≡ pos self.now.held.a }
         ensures values { result.1.now ≡ signed_values self.now.held.u }

@@ -1,4 +1,4 @@
-//! Room to make duals by values in.
+//! A workspace for duals from dual values.
 
 ghost use Rattle.std.specs.Prelude.{◌≡◌, ◌+◌, ◌*◌, ◌<◌, ◌≤◌, pos, length, IfOk};
 ghost use Rattle.hub_spec.specs.Separation.{AreListedValues};

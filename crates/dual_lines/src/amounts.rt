@@ -1,5 +1,4 @@
-//! The exact test: a price against the costs of the routes that are allowed, as often as its part says, and the values
-//! as they are listed.
+//! The exact test: the price against the costs of the allowed routes times the part, with the values as listed.
 
 ghost use Rattle.std.specs.Prelude.{◌≡◌, ◌*◌, ◌<◌, ◌≤◌, ◌↔◌, length, IsTrue, All};
 ghost use Rattle.hub_spec.specs.Limits.{most_part, most_cost};

@@ -1,4 +1,4 @@
-//! The dual of one commodity, listed value by value and then tested, also for another commodity of its origin.
+//! The dual of one commodity, listed value by value and then tested, also for other commodities of its origin.
 
 ghost use Rattle.std.specs.Prelude.{◌≡◌, ◌<◌, ◌≤◌, ◌↔◌, [], ◌∷◌, ◌++◌, IsTrue, IfOk, All};
 ghost use Rattle.hub_spec.specs.Limits.{most_part};

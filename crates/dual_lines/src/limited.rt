@@ -1,8 +1,8 @@
-//! The test of a price where the length of routes is limited: in steps, by the routes that are no longer in steps than
-//! the limit, and what is not sure then in the numbers that are listed.
+//! The test of a price where the length of routes is limited. First it takes the routes that are within the limit in
+//! steps. What is left undecided is tested in the listed numbers.
 //!
-//! Distances are rounded down, so that each route that is allowed counts. A place that is covered here is covered in the
-//! costs that are listed.
+//! Distances are rounded down, so no allowed route is missed. A candidate that is covered here is covered in the listed
+//! costs.
 
 ghost use Rattle.std.specs.Prelude.{◌≡◌, ℕ, ◌+◌, ◌*◌, ◌^◌, ◌<◌, ◌≤◌, ◌↔◌, length, slice_index, IsTrue, IfSome, All};
 ghost use Rattle.hub_spec.specs.Limits.{most_part};

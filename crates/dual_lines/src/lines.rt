@@ -10,10 +10,10 @@ use hub_model::Instance;
 use std::alloc::{AllocError, Global};
 use std::marker::Model;
 
-/// A run of commodities of one origin, the destinations one after another, with one dual of some part that is listed
-/// for each of them: its price and its values, in 10^-12.
+/// A run of commodities from one origin to consecutive destinations, with one dual of some part for each of them: a
+/// price and values, in 10^-12.
 ///
-/// One run after another may stand here. What the last one listed is taken back in time of its values alone.
+/// It is used for one run after another. Clearing the last dual takes time only for its listed values.
 #[derive(Drop)]
 pub struct DualLine<'a> {
     line: CommodityLine<'a>,
@@ -32,8 +32,7 @@ impl<'a> Model for DualLine<'a> {
 }
 
 impl<'a> DualLine<'a> {
-    /// The first commodity of the instance alone, with the part 1, the price 0 and no values. The only call that takes
-    /// memory.
+    /// The first commodity of the instance alone, with the part 1, the price 0 and no values. Only this call allocates.
     pub fn new(alloc: Global, instance: &'a Instance) -> Result<DualLine<'a>, AllocError>
         ensures { IfOk result (λ d. d ≡ record {
           problem = instance.now;
@@ -53,8 +52,8 @@ impl<'a> DualLine<'a> {
         })
     }
 
-    /// Begins the dual of `run` commodities from `i`, the first one to `j`, with this part and this price, as yet
-    /// without values.
+    /// Begins the dual of `run` commodities from `i`, the first one to `j`, with this part and this price, and no
+    /// values yet.
     pub fn begin(&mut self, i: u32, j: u32, run: u32, part: u32, a: u128)
         requires from { i < self.old.problem.size }
         requires some { 1 ≤ run }
@@ -74,7 +73,7 @@ impl<'a> DualLine<'a> {
         self.run = run;
     }
 
-    /// Lists the value of a node after those of lower nodes.
+    /// Lists the value of a node, greater than the nodes before it.
     pub fn list(&mut self, k: u32, u: u128)
         requires node { k < self.old.problem.size }
         requires above { All (λ e. e.0 < k) self.old.dual.u }
@@ -87,8 +86,8 @@ impl<'a> DualLine<'a> {
         self.line.list(k, u);
     }
 
-    /// Tells whether it is a feasible dual of each commodity of the run: with the values of its hubs added, no route that
-    /// is allowed by way of candidates costs, times the part, less than the price, and only candidates are listed.
+    /// Tells whether the dual is feasible for each commodity of the run. Only candidates may be listed. No allowed
+    /// route may cost, times the part and with the values of its hubs added, less than the price.
     pub fn holds(&mut self) -> bool
         ensures holds { IsTrue result
             ↔ ((s : ℕ) → s < self.old.run
@@ -111,14 +110,14 @@ impl<'a> DualLine<'a> {
         self.line.part()
     }
 
-    /// How many commodities the run has.
+    /// The number of commodities of the run.
     pub fn run(&self) -> u32
         ensures { result ≡ self.now.run }
     {
         self.run
     }
 
-    /// The price.
+    /// The price, in 10^-12.
     pub fn price(&self) -> u128
         ensures value { result ≡ self.now.dual.a }
         ensures limit { IsAmount result }
@@ -126,7 +125,7 @@ impl<'a> DualLine<'a> {
         self.line.price()
     }
 
-    /// The nodes with their values, as they were listed.
+    /// The nodes with their values, in 10^-12, as listed.
     pub fn values(&self) -> &[(u32, u128)]
         ensures values { result.now ≡ self.now.dual.u }
         ensures in_range { IsDualInRange self.now.problem.size self.now.dual }

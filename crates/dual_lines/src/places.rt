@@ -1,4 +1,4 @@
-//! What is written for the nodes that a dual lists, and cleared again.
+//! The tables by node and by candidate of a dual's values, written and cleared.
 
 ghost use Rattle.std.specs.Prelude.{◌≡◌, ℕ, ◌<◌, ◌≤◌, ◌≢◌, ◌↔◌, length, map, slice_index, IsTrue, All};
 ghost use Rattle.std.specs.List.Sorted.{IsStrictlyIncreasing};

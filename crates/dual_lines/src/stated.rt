@@ -1,4 +1,4 @@
-//! The exact test of one dual as a cut states it, which keeps nothing: threads may make it side by side.
+//! The exact test of one dual of an explicit cut. It has no state, so threads may run it side by side.
 
 ghost use Rattle.std.specs.Prelude.{◌≡◌, ℕ, ◌<◌, ◌≤◌, ◌↔◌, length, slice_index, IsTrue, All, Contains};
 ghost use Rattle.hub_spec.specs.Limits.{most_part};
@@ -12,8 +12,8 @@ use hub_model::{Instance, MOST_NODES, is_among};
 /// Room for an amount of each node.
 const ROOM: usize = MOST_NODES as usize;
 
-/// Tells whether it is a feasible dual of the commodity with this part: with the values of its hubs added, no route that is
-/// allowed by way of candidates costs, times the part, less than the price, and only candidates are listed.
+/// Tells whether the dual is feasible for the commodity with this part. Only candidates may be listed. No allowed route
+/// may cost, times the part and with the values of its hubs added, less than the price.
 pub fn is_dual(instance: &Instance, part: u32, commodity: (u32, u32), dual: &StatedDual<'_>) -> bool
     requires part { part ≤ most_part }
     requires from { commodity.0 < instance.now.size }

@@ -1,7 +1,7 @@
-//! The distances of an instance in steps, where the length of routes is limited, and the limit in steps.
+//! The distances of an instance and its length limit in steps, where the length of routes is limited.
 //!
-//! A step divides all distances where it can, so that nothing is lost by telling them in steps; else they are rounded
-//! down, and some route that is longer than the limit counts as one that is allowed.
+//! The step divides all distances where it can, so that nothing is lost. Otherwise they are rounded down, and some
+//! route above the limit counts as allowed.
 
 ghost use Rattle.std.specs.Prelude.{◌≡◌, ℕ, ◌*◌, ◌<◌, ◌≤◌, Some, length, slice_index, IfOk, IfSome};
 ghost use Rattle.hub_spec.specs.Problem.{distance};

@@ -1,4 +1,4 @@
-//! The tables of an instance in steps, beside those by unit of flow.
+//! The tables of an instance in steps, beside those per unit of flow.
 
 ghost use Rattle.std.specs.Prelude.{◌≡◌, ℕ, ◌+◌, ◌*◌, ◌<◌, ◌≤◌, length, slice_index, IfOk};
 ghost use Rattle.hub_spec.specs.Limits.{most_nodes};

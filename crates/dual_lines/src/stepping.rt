@@ -1,7 +1,7 @@
-//! The steps that lengths by unit of flow, and distances, are told in, and legs in steps.
+//! The steps in which lengths per unit of flow and distances are measured, and legs in steps.
 //!
-//! Where it can, a step divides all legs, so that nothing is lost by telling them in steps, and is fine, so that values
-//! are told in it too; where no divisor is great enough, legs are rounded down. No proof rests on which step it is.
+//! Where it can, a step divides all legs, so that nothing is lost, and is fine enough for values. Where no divisor is
+//! great enough, legs are rounded down. No proof depends on the choice of the step.
 
 ghost use Rattle.std.specs.Prelude.{◌≡◌, ℕ, ◌*◌, ◌<◌, ◌≤◌, length, slice_index, IfOk};
 ghost use Rattle.dual_lines.specs.Steps.{most_step, most_steps, AreInSteps};

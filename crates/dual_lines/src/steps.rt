@@ -1,7 +1,7 @@
-//! The test of a price. First the sure one: a price against lengths and values in steps, which fit 32 bits.
+//! The test of a price. First comes a sufficient test, in lengths and values in steps, which fit 32 bits.
 //!
-//! Legs and values are rounded down, the price up. So a price that is covered here is covered in the costs that are
-//! listed. Any other is left to the test by flow.
+//! Legs and values are rounded down, the price up. So a price that is covered here is covered in the listed costs. Any
+//! other is left to the test per unit of flow.
 
 ghost use Rattle.std.specs.Prelude.{◌≡◌, ℕ, ◌+◌, ◌*◌, ◌^◌, ◌<◌, ◌≤◌, ◌↔◌, List, length, slice_index, IsTrue, IfSome, All};
 ghost use Rattle.hub_spec.specs.Limits.{most_part};

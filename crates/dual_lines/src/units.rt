@@ -1,8 +1,8 @@
-//! The test that decides: a price against lengths and values by unit of flow, and where need be in costs.
+//! The test that decides: a price against lengths and values per unit of flow, and where needed in costs.
 //!
-//! The price is divided by the flow and rounded up, each value divided and rounded down. So what is covered here is
-//! covered in the costs that are listed, and a hub that is not is left to the exact test. The flow counts as often as
-//! the part says. Lengths, prices and values by unit of flow are in 10^-6.
+//! The price is divided by the flow and rounded up, each value is divided and rounded down. So what is covered here is
+//! covered in the listed costs, and a hub that is not is left to the exact test. The flow is multiplied by the part.
+//! Lengths, prices and values per unit of flow are in 10^-6.
 
 ghost use Rattle.std.specs.Prelude.{◌≡◌, ℕ, ◌+◌, ◌*◌, ◌^◌, ◌<◌, ◌≤◌, ◌↔◌, length, slice_index, IsTrue, IfSome, All, take};
 ghost use Rattle.hub_spec.specs.Limits.{most_part};

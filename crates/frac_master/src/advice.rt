@@ -1,4 +1,4 @@
-//! What a master advises.
+//! Weights and point of a restricted master problem.
 
 ghost use Rattle.std.specs.Prelude.{◌≡◌, ◌<◌, ◌≤◌, length, map, All, IfOk, IfSome};
 ghost use Rattle.frac_master.specs.Masters.{AreMasterNumbers, AreShortRows, AreWithinTotals, master_of, candidates_of, greatest_number};
@@ -12,24 +12,24 @@ use crate::short_rows::ShortRows;
 use hub_model::Branch;
 use std::alloc::{AllocError, Global};
 
-/// What the last table of a master's run advises.
+/// What is read off the last tableau of a master's run.
 #[derive(Clone, Drop)]
 pub struct Advice {
-    /// The weight of each cut, in 10^-6 and rounded down; they are at most 10^6 together.
+    /// The weight of each cut, in 10^-6, rounded down. Their sum is at most 10^6.
     pub weights: Vec<u128>,
-    /// For each node how much of it the mixture would open, where `scale` stands for the whole of it.
+    /// The point: for each node the fraction that the master would open, as a share of `scale`.
     pub point: Vec<i128>,
-    /// The number of the point that stands for 1.
+    /// The number of the point that means 1.
     pub scale: i128,
-    /// How the run ended.
+    /// How the simplex run ended.
     pub ended: Ended,
-    /// How many pivots were made.
+    /// The number of pivots made.
     pub pivots: u32,
 }
 
-/// What the branch's master advises, once its rows are run. For the arguments see `rows_of`.
+/// Solves the branch's restricted master problem and reads off weights and point. The arguments are those of `rows_of`.
 ///
-/// Where memory runs out, and where the master is beyond what `Rows` can hold, the answer is `AllocError`.
+/// `AllocError` means that memory ran out, or that the master is larger than `Rows` can hold.
 pub fn advise(
     alloc: Global,
     totals: &[u128],
@@ -47,11 +47,11 @@ pub fn advise(
     advise_under(alloc, totals, loads, None, fixed, branch, greatest)
 }
 
-/// The same for cuts of which none has a load above both its total and `most_load`, a number that is not above the
-/// greatest of the master. No load is looked at for the greatest number.
+/// As `advise`, for cuts of which none has a load above both its total and `most_load`. That number is at most the
+/// greatest of the master. The greatest number is then found without reading the loads.
 ///
-/// Where there are short rows, with a row for each node, whose loads are halved no more often than the master's numbers,
-/// the master is made from them, and else from `loads`: the advice is the same.
+/// With short rows, one for each node, whose loads are halved no more often than the master's numbers, the master is
+/// made from them, and otherwise from `loads`. The result is the same.
 pub fn advise_by_totals(
     alloc: Global,
     totals: &[u128],

@@ -1,4 +1,4 @@
-//! Which row leaves the basis.
+//! The leaving row: the ratio test of the simplex.
 
 ghost use Rattle.std.specs.Prelude.{◌≡◌, ◌+◌, ◌*ℤ◌, ◌<◌, ◌≤◌, ◌&&◌, ◌||◌, not, nat_lt, int_lt, length, slice_index, unsigned_abs, IfSome};
 ghost use Rattle.std.specs.Option.{option_map};

@@ -1,4 +1,4 @@
-//! Greatest common divisors, and exact division by a number that is known beforehand.
+//! Greatest common divisors, and exact division by a divisor that is known beforehand.
 
 ghost use Rattle.std.specs.Prelude.{◌≡◌, ◌*◌, ◌%◌, ◌^◌, ◌*ℤ◌, ◌<◌, ◌≤◌, pos, unsigned_abs, IfSome};
 ghost use Rattle.std.specs.Int.{w64, w128, trailing_zeros};

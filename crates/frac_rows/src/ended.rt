@@ -1,16 +1,16 @@
-//! How a run ends.
+//! How a simplex run ends.
 
-/// How a run ended.
+/// How a simplex run ended.
 #[derive(Clone, Copy, Debug, PartialEq, Eq)]
 pub enum Ended {
-    /// No column has a number below 0 in the objective row: the table is a best one.
+    /// The tableau is optimal: the objective row has no negative number in a column.
     Best,
-    /// The pivots that are allowed were made.
+    /// The limit on pivots was reached.
     Turns,
-    /// No row can leave, or the next table would have a number that is too great.
+    /// No row can leave the basis, or the next tableau would have a number above the limit.
     Wide,
 }
 
-/// The table after a pivot would have a number that is too great.
+/// The tableau after a pivot would have a number above the limit.
 #[derive(Clone, Copy, Debug, PartialEq, Eq)]
 pub struct Wide;

@@ -1,4 +1,4 @@
-//! The column that enters, with the numbers of all rows in it.
+//! The entering column, with the numbers of all rows in it.
 
 ghost use Rattle.std.specs.Prelude.{◌≡◌, ◌+◌, ◌^◌, ◌<◌, length};
 ghost use Rattle.frac_rows.specs.Rows.{number, AreNarrow};

@@ -1,4 +1,4 @@
-//! The numbers of a table, as the definitions have them.
+//! The numbers of a tableau, as the definitions have them.
 
 ghost use Rattle.std.specs.Prelude.{◌≡◌, ◌+◌, ◌<◌, ◌≤◌, length};
 ghost use Rattle.frac_rows.specs.Divisors.{divisor_of, reduced};

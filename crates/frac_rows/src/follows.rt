@@ -1,4 +1,4 @@
-//! What is kept of one row after a pivot, divided by a number that is known beforehand or by its greatest common divisor.
+//! The stored part of one row after a pivot, divided by a known divisor or by its greatest common divisor.
 
 ghost use Rattle.std.specs.Prelude.{◌≡◌, ◌+◌, not, length, IsTrue};
 ghost use Rattle.frac_rows.specs.Divisors.{reduced};

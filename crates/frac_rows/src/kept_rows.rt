@@ -1,4 +1,4 @@
-//! The rows of a linear program, on which pivots and runs are made.
+//! The tableau of a linear program, with its pivots and simplex runs.
 
 ghost use Rattle.std.specs.Prelude.{◌≡◌, ◌+◌, ◌*◌, ◌^◌, ◌<◌, ◌≤◌, ◌<ℤ◌, pos, true, false, length, slice_index, unsigned_abs, All, IfOk, OnOk, OnErr, OnSome, IfSome, IsNone};
 ghost use Rattle.frac_rows.specs.Rows.{widest, number, row_at, objective, after_pivot, is_wide, entering, IsTable};
@@ -14,7 +14,7 @@ use crate::{Ended, Wide, entries, moves};
 use std::alloc::{AllocError, Global};
 use std::marker::Model;
 
-/// A table: of each row a multiple of its numbers behind the variables is kept. The rest follows from the columns.
+/// A tableau. Of each row it stores a multiple of the numbers behind the variables. The rest follows from the columns.
 #[derive(Drop)]
 pub struct Rows {
     columns: Columns,
@@ -37,7 +37,7 @@ impl Model for Rows {
 }
 
 impl Rows {
-    /// The table before the first pivot. The numbers of the variables stand row by row: a row for each constraint, and
+    /// The tableau before the first pivot. The numbers of the variables come row by row: a row for each constraint, and
     /// last what v loses by each.
     pub fn start(
         alloc: Global,
@@ -67,7 +67,7 @@ impl Rows {
         })
     }
 
-    /// How many constraint rows there are.
+    /// The number of constraint rows.
     pub fn constraints(&self) -> usize
         ensures value { result ≡ length self.now.basis }
         ensures table { IsTable self.now }
@@ -75,7 +75,7 @@ impl Rows {
         self.basis.len()
     }
 
-    /// How many columns there are, those of v and of the right side among them.
+    /// The number of columns, including those of v and of the right side.
     pub fn columns(&self) -> usize
         ensures value { result ≡ length (objective self.now) }
         ensures table { IsTable self.now }
@@ -83,7 +83,7 @@ impl Rows {
         self.columns.variables() + self.columns.height() + 1
     }
 
-    /// The number of the row in the column; the objective row is behind those of the constraints.
+    /// The number in this row and column. The objective row comes after those of the constraints.
     pub fn entry(&self, row: usize, column: usize) -> i64
         requires row { row ≤ length self.now.basis }
         requires column { column < length (objective self.now) }
@@ -100,7 +100,8 @@ impl Rows {
         self.basis[row]
     }
 
-    /// Makes the pivot on the row and the column, unless the table after it would have a number that is too great.
+    /// Pivots on the row and the column. It fails, without a change, where the next tableau would have a number above
+    /// the limit.
     pub fn pivot(&mut self, row: usize, column: usize) -> Result<(), Wide>
         requires row { row < length self.old.basis }
         requires column { column + 2 < length (objective self.old) }
@@ -123,8 +124,8 @@ impl Rows {
         Ok(())
     }
 
-    /// Makes pivots, each on the column that enters and the row that leaves, until the table is best, no pivot can be
-    /// made, or as many as are allowed were made. It tells which of these it was, and how many were made.
+    /// Runs the simplex by Bland's rule (Bland 1977) until the tableau is optimal, no pivot can be made, or the limit
+    /// on pivots is reached. It returns which of these it was, and the number of pivots made.
     pub fn run(&mut self) -> (Ended, u32)
         ensures { run self.old ≡ record { table = self.new; ended = result.0; pivots = result.1 } }
     {

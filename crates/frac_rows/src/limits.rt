@@ -1,6 +1,6 @@
-//! The limits of tables and runs.
+//! The limits of tableaux and runs.
 
-/// The greatest size of a number of a table.
+/// The greatest absolute value of a number in a tableau.
 pub const WIDEST: u64 = 1 << 62;
 
 /// The most pivots of a run.

@@ -1,4 +1,4 @@
-//! Parts of a list that stand one after the other, all of one length.
+//! Parts of equal length of one list, one after another.
 
 ghost use Rattle.std.specs.Prelude.{◌≡◌, ◌+◌, ◌*◌, ◌≤◌, length};
 ghost use Rattle.frac_rows.specs.Stored.{piece};

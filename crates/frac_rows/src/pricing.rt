@@ -1,4 +1,4 @@
-//! The least column before v with a number below 0 in a row.
+//! Pricing: the first column before v with a negative number in a row.
 
 ghost use Rattle.std.specs.Prelude.{◌≡◌, ℕ, ◌+◌, ◌-◌, ◌*◌, ◌^◌, ◌<◌, ◌≤◌, ◌≤ℤ◌, false, length, IfSome, IsNone};
 ghost use Rattle.frac_rows.specs.Rows.{first_negative, AreNarrow};

@@ -1,4 +1,4 @@
-//! Sums of products of a row's numbers and those of a column.
+//! Sums of products of a row's numbers with those of a column.
 
 ghost use Rattle.std.specs.Prelude.{◌≡◌, ◌<◌, ◌≤◌, ◌-◌, ◌^◌, ◌*◌, ◌+ℤ◌, ◌*ℤ◌, length, min, unsigned_abs};
 ghost use Rattle.std.specs.Int.{w64, w128, int_wrap};

@@ -1,4 +1,4 @@
-//! Rough rows, whose sums of products with the columns of the variables tell about those of the rows themselves.
+//! Rough rows: approximate rows in 32 bits, whose sums of products with the columns bound those of the exact rows.
 
 ghost use Rattle.std.specs.Prelude.{◌≡◌, ℕ, ◌+◌, ◌-◌, ◌*◌, ◌^◌, ◌<◌, ◌≤◌, ◌+ℤ◌, ◌-ℤ◌, ◌*ℤ◌, ◌≤ℤ◌, pos, length, take, drop, min, sum, unsigned_abs, FitsSigned, IfSome};
 ghost use Rattle.std.specs.Int.{w32, int_wrap};

@@ -1,4 +1,4 @@
-//! What is kept of the table before the first pivot.
+//! The stored part of the tableau before the first pivot.
 
 ghost use Rattle.std.specs.Prelude.{◌≡◌, ℕ, ◌+◌, ◌*◌, ◌^◌, ◌<◌, ◌≤◌, length, unsigned_abs, All, IfOk};
 ghost use Rattle.std.specs.List.{range_with_len};

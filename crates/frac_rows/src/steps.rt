@@ -1,4 +1,4 @@
-//! What a pivot makes of one row, divided by a number that is known beforehand or by the greatest common divisor.
+//! One row after a pivot, divided by a known divisor or by its greatest common divisor.
 
 ghost use Rattle.std.specs.Prelude.{◌≡◌, ◌≤◌, ◌^◌, ◌*ℤ◌, ◌-ℤ◌, length, pos, not, unsigned_abs, All, IsTrue, OnSome, IfSome};
 ghost use Rattle.frac_rows.specs.Divisors.{gcd, divisor_of, quotient, reduced};

@@ -1,4 +1,4 @@
-//! Whether a row has a number for a variable that is too great.
+//! Whether a row has a number above the limit in a column of a variable.
 
 ghost use Rattle.std.specs.Prelude.{◌≡◌, ℕ, ◌+◌, ◌-◌, ◌*◌, ◌^◌, ◌<◌, ◌≤◌, length, map, unsigned_abs, nat_lt, IfSome, IsTrue, IsFalse};
 ghost use Rattle.frac_rows.specs.Rows.{widest, number, is_wide_row, AreNarrow};

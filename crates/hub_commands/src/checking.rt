@@ -1,4 +1,4 @@
-//! The command `check`: an instance and a certificate from their files to a verdict.
+//! The command `check`: from the files of an instance and a certificate to a verdict.
 
 ghost use Rattle.std.specs.Prelude.{◌≡◌, ◌⊎◌, IfOk, IfErr};
 ghost use Rattle.hub_io.specs.Outside.{BeginsOnly};
@@ -20,7 +20,7 @@ use hub_sources::{Halt, read_instance};
 use hub_words::Source;
 use std::alloc::Global;
 
-/// The ending of a check of the certificate of this file against the instance that the source names.
+/// Checks the certificate in this file against the instance that the source names, and returns how the check ends.
 pub fn check<S: Shelf>(
     alloc: Global,
     source: &Source<'_>,

@@ -1,4 +1,4 @@
-//! The command `report`: an instance and a certificate from their files to what the certified network costs.
+//! The command `report`: from the files of an instance and a certificate to the costs of the certified network.
 
 ghost use Rattle.std.specs.Prelude.{◌≡◌, ◌⊎◌, ◌≤◌, length, IfOk, IfErr};
 ghost use Rattle.hub_io.specs.Outside.{BeginsOnly};
@@ -23,26 +23,26 @@ use hub_words::Source;
 use std::alloc::{AllocError, Global};
 use std::thread::Threads;
 
-/// What `report` tells of.
+/// The result of `report`.
 #[derive(Drop)]
 pub enum Reported {
     /// The certificate, which holds for the instance.
     Report(Instance, Certificate),
-    /// The bytes do not certify, and a check ends so.
+    /// The bytes do not certify. The check ends so.
     Refused(Ending),
 }
 
-/// What the bytes of a certificate are for an instance.
+/// The result of reading a certificate's bytes for an instance.
 #[derive(Drop)]
 pub enum Reading {
     /// They spell this certificate, which holds.
     Certified(Certificate),
-    /// They do not certify, and a check ends so.
+    /// They do not certify. The check ends so.
     Refused(Ending),
 }
 
-/// The report of the certificate of this file on the instance that the source names; where its bytes do not certify,
-/// the ending of a check.
+/// Reports on the certificate in this file for the instance that the source names. Where its bytes do not certify, it
+/// returns how the check ends.
 pub fn report<R: Threads + Sync, S: Shelf>(
     rt: &R,
     alloc: Global,

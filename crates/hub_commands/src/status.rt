@@ -1,35 +1,35 @@
-//! How a run of the program ends.
+//! The exit status of the program.
 
 ghost use Rattle.std.specs.Prelude.{◌≡◌};
 ghost use Rattle.hub_commands.specs.VerdictStatuses.{number_of};
 
-/// How a run ended; the program ends with its number.
+/// The exit status of a run.
 #[derive(Clone, Copy, Debug, PartialEq, Eq)]
 pub enum Status {
-    /// `solve`, `resolve`, `optimize`, `demo`: the bound is the cost. `check`: the bytes certify an optimal plan. `report`: they
-    /// certify. `make`: the text was written.
+    /// `solve`, `resolve`, `optimize`, `demo`: the bound is the cost. `check`: the bytes certify an optimal plan.
+    /// `report`: they certify. `make`: the text was written.
     Done,
-    /// `solve`, `resolve`, `optimize`, `demo`: the bound is below the cost, since two nodes more were not allowed, or for
-    /// `optimize` since it is within the gap. `check`: the bytes certify a plan, with a bound below its cost.
+    /// `solve`, `resolve`, `optimize`, `demo`: the bound is below the cost, since the node limit was reached, or for
+    /// `optimize` since the bound is within the gap. `check`: the bytes certify a plan with a bound below its cost.
     Stopped,
-    /// `check`, `report`: the bytes do not certify. `resolve`, `optimize`: those of the older certificate do not serve.
+    /// `check`, `report`: the bytes do not certify. `resolve`, `optimize`: the older certificate was refused.
     No,
-    /// The words are no command.
+    /// The arguments are no command.
     Usage,
-    /// The instance file has a fault.
+    /// The instance file or the costs file has a fault.
     Instance,
     /// Memory ran out.
     Memory,
-    /// The shelf failed.
+    /// Reading a file failed.
     Read,
-    /// A sink failed.
+    /// Writing to an output failed.
     Write,
-    /// `solve`, `optimize`, `resolve`: all candidates together are infeasible for a commodity, so there is no network.
+    /// `solve`, `optimize`, `resolve`: all candidates together are infeasible for a commodity, so there is no plan.
     Lacking,
 }
 
 impl Status {
-    /// The number with which the program ends, 0 to 8.
+    /// The exit status as a number, 0 to 8.
     pub fn number(self) -> u8
         ensures { result ≡ number_of self }
     {

@@ -1,4 +1,4 @@
-//! The verdict on a certificate's bytes: its status, and its line.
+//! The verdict on a certificate's bytes: its status and its line.
 
 ghost use Rattle.std.specs.Prelude.{◌≡◌};
 ghost use Rattle.hub_io.specs.Outside.{Puts};
@@ -23,7 +23,7 @@ pub fn status_of_ending(ending: &Ending) -> Status
     }
 }
 
-/// Puts the line of the verdict, costs with 12 decimals.
+/// Puts the line of the verdict. Costs have 12 decimals.
 pub fn put_ending<K: Sink>(ending: &Ending, sink: &mut K) -> Result<(), Failed>
     ensures { Puts K.taken K.faults sink.old sink.new result (verdict_text (verdict_of ending.now)) }
 {

@@ -1,4 +1,4 @@
-//! The row of a commodity.
+//! The edge row of a commodity.
 
 ghost use Rattle.std.specs.Prelude.{◌≡◌, ◌<◌, ◌≤◌, pos, IfOk, Contains};
 ghost use Rattle.hub_spec.specs.Limits.{most_cost};
@@ -14,10 +14,10 @@ use hub_model::{HubSet, Instance};
 use std::alloc::{AllocError, Global};
 use std::marker::Model;
 
-/// The single hubs and the needed hub edges of one commodity, each by its cheaper route. It borrows the instance.
+/// The single hubs and the needed hub edges of one commodity, each in its cheaper direction. It borrows the instance.
 ///
-/// An entry is the first and the last hub of a route, and what the route costs, in 10^-12. Entries ascend by cost,
-/// then by first hub, then by last hub.
+/// An entry has the first and last hub of a route and its cost, in 10^-12. Entries ascend by cost, then by first hub,
+/// then by last hub.
 #[derive(Drop)]
 pub struct EdgeRow<'a> {
     instance: &'a Instance,
@@ -37,7 +37,7 @@ impl<'a> Model for EdgeRow<'a> {
 }
 
 impl<'a> EdgeRow<'a> {
-    /// The row of the commodity from `i` to `j`. It fails where there is no memory.
+    /// The edge row of the commodity from `i` to `j`. It fails where memory runs out.
     pub fn of(
         alloc: Global,
         instance: &'a Instance,
@@ -58,7 +58,7 @@ impl<'a> EdgeRow<'a> {
         })
     }
 
-    /// The entries, the cheapest first.
+    /// The entries, cheapest first.
     pub fn entries(&self) -> &[(u32, u32, i128)]
         ensures value { result.now ≡ self.now.entries }
         ensures row { IsEdgeRow self.now.problem self.now.commodity self.now.entries }
@@ -74,7 +74,7 @@ impl<'a> EdgeRow<'a> {
         self.instance
     }
 
-    /// The node from which the commodity goes.
+    /// The origin of the commodity.
     pub fn from(&self) -> u32
         ensures value { result ≡ self.now.commodity.0 }
         ensures node { result < self.now.problem.size }
@@ -82,7 +82,7 @@ impl<'a> EdgeRow<'a> {
         self.from
     }
 
-    /// The node to which the commodity goes.
+    /// The destination of the commodity.
     pub fn to(&self) -> u32
         ensures value { result ≡ self.now.commodity.1 }
         ensures node { result < self.now.problem.size }
@@ -90,8 +90,8 @@ impl<'a> EdgeRow<'a> {
         self.to
     }
 
-    /// The first entry whose hubs are both in the set: what the commodity costs where these are the hubs. It takes no
-    /// memory.
+    /// The first entry whose hubs are both in the set: the least cost of the commodity through the set. It allocates
+    /// nothing.
     pub fn cheapest_in(&self, set: &HubSet) -> (u32, u32, i128)
         requires { IsHubSet self.now.problem set.now }
         ensures entry { Contains self.now.entries result }
@@ -105,7 +105,7 @@ impl<'a> EdgeRow<'a> {
     }
 }
 
-/// A commodity has one row: what is said of its entries leaves no choice.
+/// The edge row of a commodity is unique.
 pub fn row_is_one()
     ensures { RowIsOne }
 {}

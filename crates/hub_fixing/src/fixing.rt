@@ -1,4 +1,4 @@
-//! The free candidates of which a side stays.
+//! Variable fixing: the free candidates that are decided.
 
 ghost use Rattle.std.specs.Prelude.{◌≡◌, ◌^◌, ◌≤◌, false, IfOk};
 ghost use Rattle.leaf_bound.specs.Numbers.{AreWeightingNumbers, IsBranchWithin, weighting_of};
@@ -12,9 +12,11 @@ use std::alloc::{AllocError, Global};
 // Room for a number of each node.
 const ROOM: usize = MOST_NODES as usize;
 
-/// The free candidates of the branch, ascending, of which a side stays under these weights, each with that side.
+/// Variable fixing by reduced-cost bounds: the free candidates of the branch that these weights decide, ascending, each
+/// with the side that stays.
 ///
-/// The target is in 10^-12. The branch itself does not close it; where it does, both children of each free candidate do.
+/// `target` is the cutoff, in 10^-12. The branch itself is not fathomed at it. Otherwise both children of each free
+/// candidate would be.
 pub fn fix(
     alloc: Global,
     weighting: &Weighting,

@@ -1,4 +1,4 @@
-// Many small puts joined into few large ones.
+//! Many small puts joined into few large ones.
 ghost use Rattle.std.specs.Prelude.{◌≡◌, ◌+◌, ◌<◌, ◌≤◌, [], ◌++◌, length, OnOk};
 ghost use Rattle.hub_io.specs.Outside.{PutsThrough};
 
@@ -8,9 +8,9 @@ use std::marker::Model;
 // How many bytes wait at most.
 const SIZE: usize = 8192;
 
-/// Bytes that wait to be put on a sink, seen as the list of them. It takes no memory but its own 8192 bytes.
+/// A write buffer of 8192 bytes before a sink, seen as the list of the bytes that wait. It allocates nothing.
 ///
-/// After a failed call nothing is said of what waits.
+/// After a failed call nothing is known of what waits.
 #[derive(Drop)]
 pub struct Buffer {
     bytes: [u8; SIZE],
@@ -29,7 +29,7 @@ impl Model for Buffer {
 }
 
 impl Buffer {
-    /// A buffer in which nothing waits.
+    /// An empty buffer.
     pub fn new() -> Buffer
         ensures { result ≡ [] }
     {
@@ -39,8 +39,8 @@ impl Buffer {
         }
     }
 
-    /// Puts a piece behind what waits. Where it doesn't fit there, what waits is put on the sink by one
-    /// put, and a piece longer than the buffer by another.
+    /// Appends a piece. Where it does not fit, one put empties the buffer first. A piece longer than the buffer goes to
+    /// the sink by a put of its own.
     pub fn put<K: Sink>(&mut self, piece: &[u8], sink: &mut K) -> Result<(), Failed>
         ensures { PutsThrough K.taken K.faults sink.old sink.new self.old self.new result piece.now }
     {
@@ -52,7 +52,7 @@ impl Buffer {
         Ok(())
     }
 
-    /// Puts what waits on the sink, by one put where anything waits.
+    /// Flushes the buffer to the sink, by one put where anything waits.
     pub fn finish<K: Sink>(&mut self, sink: &mut K) -> Result<(), Failed>
         ensures through { PutsThrough K.taken K.faults sink.old sink.new self.old self.new result [] }
         ensures none_waits { OnOk result (self.new ≡ []) }

@@ -1,13 +1,13 @@
-// Where the workers of the program pass.
+//! Where the workers of the program pass.
 
-/// A place that a worker passes before each block of its work. A gate in a test may hold a worker there,
-/// so that every order of the workers can be tried; no result depends on it.
+/// What a worker passes before each block of its work. A gate in a test may hold a worker, so that every schedule can
+/// be tried. No result depends on it.
 pub trait Gate: Sync {
-    /// The worker of this number is about to do the block of this number, both counted from 0.
+    /// Worker number `worker` is about to do block number `block`, both counted from 0.
     fn at(&self, worker: u32, block: u32);
 }
 
-/// Lets every worker pass at once.
+/// A gate that lets every worker pass at once.
 #[derive(Clone, Copy, Default)]
 pub struct OpenGate;
 

@@ -1,4 +1,4 @@
-// A shelf in memory, which fails where it is told to.
+//! A shelf in memory, which fails where it is told to.
 ghost use Rattle.std.specs.Prelude.{◌≡◌, ◌+◌, ◌-◌, ◌^◌, ◌<◌, ◌≤◌, ◌↔◌, ◌++◌, min, Contains, IsTrue, ℕ, Option, None, Some, [], length, take, drop, All, slice_get, string_bytes, false, IfOk, IfSome};
 ghost use Rattle.hub_io.specs.MemShelf.{Finds, held_bytes, left_bytes, most_given, ReadsOn};
 
@@ -8,7 +8,7 @@ use std::alloc::{AllocError, Global};
 /// A file in memory.
 #[derive(Drop)]
 pub struct MemFile {
-    /// The name that `begin` takes.
+    /// The name by which `begin` finds it.
     pub name: String,
     /// What is read, from the first byte on.
     pub bytes: Vec<u8>,
@@ -33,11 +33,12 @@ struct Place {
     byte: usize,
 }
 
-/// Files in memory: of two with one name the first is read. It tells all that it holds, and no names that were begun.
+/// Files in memory, for tests. Of two files with one name the first is read. Contracts know all that it holds, and no
+/// names that were begun.
 ///
-/// Calls of `begin` and `read` are counted together from 1, and those in a list fail and do nothing
-/// else. Besides them, `begin` fails at a name that isn't held, and `read` before anything was begun.
-/// Reads that give bytes are counted from 1 too, and the lengths of a list bound them in turn.
+/// Calls of `begin` and `read` are counted together from 1, and the calls in a list fail without effect. Besides them,
+/// `begin` fails for a name that is not held, and `read` before any `begin`. Reads that give bytes are counted from 1
+/// too, and a list bounds their lengths, one after another.
 #[derive(Drop)]
 pub struct MemShelf {
     files: Vec<MemFile>,
@@ -50,7 +51,7 @@ pub struct MemShelf {
 }
 
 impl MemShelf {
-    /// A shelf on which no call is to fail.
+    /// A shelf on which no call is made to fail.
     pub fn new(alloc: Global, files: Vec<MemFile>) -> MemShelf
         ensures held { ⟦<MemShelf as Shelf>⟧.held result ≡ Some (held_bytes files.items) }
         ensures unbegun { ⟦<MemShelf as Shelf>⟧.left result ≡ None }
@@ -60,7 +61,7 @@ impl MemShelf {
         MemShelf::with_faults(files, Vec::new(alloc))
     }
 
-    /// A shelf on which the calls of these numbers are to fail.
+    /// A shelf on which the calls of these numbers fail.
     pub fn with_faults(files: Vec<MemFile>, failing: Vec<u64>) -> MemShelf
         ensures held { ⟦<MemShelf as Shelf>⟧.held result ≡ Some (held_bytes files.items) }
         ensures unbegun { ⟦<MemShelf as Shelf>⟧.left result ≡ None }
@@ -71,8 +72,8 @@ impl MemShelf {
         MemShelf::with_short_reads(files, failing, lengths)
     }
 
-    /// A shelf on which the calls of these numbers are to fail, and the first reads that give bytes give
-    /// at most these lengths of them, in turn, and at least one byte.
+    /// A shelf on which the calls of these numbers fail, and which gives short reads. The first reads that give bytes
+    /// give at most these lengths, one after another, and at least one byte.
     pub fn with_short_reads(files: Vec<MemFile>, failing: Vec<u64>, lengths: Vec<usize>) -> MemShelf
         ensures held { ⟦<MemShelf as Shelf>⟧.held result ≡ Some (held_bytes files.items) }
         ensures unbegun { ⟦<MemShelf as Shelf>⟧.left result ≡ None }

@@ -1,4 +1,4 @@
-// A sink in memory, which fails where it is told to and past its room.
+//! A sink in memory, which fails where it is told to and past its room.
 ghost use Rattle.std.specs.Prelude.{◌≡◌, ◌+◌, ◌-◌, ◌^◌, ◌<◌, ◌≤◌, ◌++◌, min, ℕ, [], None, Some, All, length, take, IfOk, IsOk, vec_capacity};
 ghost use Rattle.hub_io.specs.Outside.{Puts};
 ghost use Rattle.hub_io.specs.Partial.{partial_at};
@@ -6,19 +6,18 @@ ghost use Rattle.hub_io.specs.Partial.{partial_at};
 use crate::{Failed, Sink};
 use std::alloc::{AllocError, Global};
 
-/// A put that is to fail.
+/// A put that is made to fail.
 #[derive(Clone, Copy, Debug, PartialEq, Eq)]
 pub struct Partial {
     /// The number of the put, counted from 1.
     pub call: u64,
-    /// How many bytes of its piece are taken nevertheless, where the piece has so many.
+    /// How many bytes of its piece are taken nevertheless, or all where the piece is shorter.
     pub taken: usize,
 }
 
-/// A sink in memory. It tells what it has taken.
+/// A sink in memory, for tests. Contracts know what it has taken.
 ///
-/// It takes its room when it is made, and no memory later. A put past the room fails, and what fits
-/// is taken.
+/// Its memory is allocated when it is made. A put past its capacity fails, and the bytes that fit are taken.
 #[derive(Drop)]
 pub struct MemSink {
     taken: Vec<u8>,
@@ -33,7 +32,7 @@ pub struct MemSink {
 impl MemSink {
     ghost use Rattle.hub_io.specs.MemSink.{TakesAll};
 
-    /// A sink with room for that many bytes, on which no put is to fail.
+    /// A sink with a capacity in bytes, on which no put is made to fail.
     pub fn new(alloc: Global, room: usize) -> Result<MemSink, AllocError>
         ensures taken { IfOk result (λ s. ⟦<MemSink as Sink>⟧.taken s ≡ Some []) }
         ensures faults { IfOk result (λ s. ⟦<MemSink as Sink>⟧.faults s ≡ 0) }
@@ -42,7 +41,7 @@ impl MemSink {
         MemSink::with_faults(alloc, room, Vec::new(alloc))
     }
 
-    /// A sink with room for that many bytes, on which these puts are to fail.
+    /// A sink with a capacity in bytes, on which these puts fail.
     pub fn with_faults(
         alloc: Global,
         room: usize,
@@ -61,7 +60,7 @@ impl MemSink {
         })
     }
 
-    /// What was taken so far.
+    /// The bytes taken so far.
     pub fn taken(&self) -> &[u8]
         ensures { ⟦<MemSink as Sink>⟧.taken self.now ≡ Some result.now }
     {

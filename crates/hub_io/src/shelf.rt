@@ -1,22 +1,22 @@
-// Where files are read.
+//! Where files are read.
 ghost use Rattle.std.specs.Prelude.{◌≡◌, ◌<◌, ℕ, List, Option, None, length, OnOk, OnErr, IsSome, IsErr};
 ghost use Rattle.std.specs.Io.{ReadsAtMost};
 ghost use Rattle.std.specs.Io.KnownBytes.{ReadConsumes};
 ghost use Rattle.hub_io.specs.Outside.{Files, HasCause, Starts, TellsOf, with_name};
 
-/// A call on an object outside the program failed. What failed is not told.
+/// A call on an object outside the program failed. The cause is not known.
 #[derive(Clone, Copy, Debug, PartialEq, Eq)]
 pub struct Failed;
 
 /// Files by name, read one at a time from the first byte on.
 ///
-/// A call fails only where the count of faults rose in that call, or stands at its last value 2^64 - 1.
+/// A call fails only where the count of faults rose in that call, or is at its last value 2^64 - 1.
 pub trait Shelf {
     /// The bytes held under each name, where the shelf tells.
     ghost held: { Self → Option Files };
 
-    /// The bytes left of the file that was begun, where the shelf tells. A shelf that tells what it
-    /// holds has none exactly until a file is begun.
+    /// The bytes left of the file that was begun, where the shelf tells. On a shelf that tells what it holds there are
+    /// none exactly until a file is begun.
     ghost left: { Self → Option (List ℕ) };
 
     /// The names for which `begin` was called, in order, where the shelf tells.
@@ -37,8 +37,8 @@ pub trait Shelf {
         ensures stays_sound { sound self.old → sound self.new }
         ensures sound_begins { sound self.old → TellsOf (held self.old) name.now → OnErr result ⊥ };
 
-    /// Reads on in the file that was begun, and answers how many bytes it wrote to the front of `into`:
-    /// at least one, or none at the end of the file.
+    /// Reads on in the file that was begun. It returns the number of bytes written to the beginning of `into`: at least
+    /// one, or none at the end of the file.
     fn read(&mut self, into: &mut [u8]) -> Result<usize, Failed>
         requires { 0 < length into.old }
         ensures bound { ReadsAtMost result into.new }

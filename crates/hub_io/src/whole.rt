@@ -1,4 +1,4 @@
-// A whole file, up to a limit.
+//! A whole file, up to a limit.
 ghost use Rattle.std.specs.Prelude.{◌≡◌, ◌≤◌, length, IfOk};
 ghost use Rattle.hub_io.specs.Outside.{Holds, HoldsMore, LeavesRest, Rose, TellsOf, with_name};
 
@@ -15,14 +15,14 @@ pub enum ReadEnd {
     ReadFault,
     /// The file has more bytes than the limit.
     TooLong,
-    /// The bytes find no room in memory.
+    /// The allocation for the bytes failed.
     OutOfMemory,
 }
 
 /// The bytes of the file of that name, at most `limit` of them.
 ///
-/// No other file is begun. Where no count of faults rose and memory sufficed, the answer is `TooLong` exactly where the file
-/// has more than `limit` bytes, and else its bytes: so the clauses say together.
+/// No other file is begun. Without a fault of the shelf, and with enough memory, the result is `TooLong` exactly where
+/// the file has more than `limit` bytes.
 pub fn read_whole<S: Shelf>(
     alloc: Global,
     shelf: &mut S,

@@ -13,8 +13,8 @@ use hub_io::{Buffer, Failed, Sink};
 // How many decimals a cost is printed with: all that it has.
 const COST_PLACES: u32 = 12;
 
-/// Puts the five lines of a demonstration: the number of nodes of the instance, the cost of the plan and the bound, both
-/// in 10^-12, the plan's hubs, and the number of nodes of the search. It takes no memory.
+/// Puts the five lines of a demonstration: number of nodes, cost of the plan and bound in 10^-12, hubs, and number of
+/// search nodes. It allocates nothing.
 pub fn put_demo<K: Sink>(
     size: u32,
     cost: u128,

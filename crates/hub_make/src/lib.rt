@@ -30,9 +30,10 @@ use std::alloc::{AllocError, Global};
 // The lines of the listed number of hubs and of the factors of collection, trunk and delivery.
 const HUBS_AND_FACTORS: &[u8] = b"1\n3\n0.75\n2\n";
 
-/// The text of a made-up instance in the layout `ap` with a tail of fixed costs: the number of nodes, a line of two
-/// coordinates for each node, a line of flows for each origin, one listed hub, the three factors, and a line of the
-/// fixed costs. Numbers on a line have one space between them, and each line ends with a line feed.
+/// The text of a made-up instance in the layout `ap`, with fixed costs at its end.
+///
+/// Its lines are the number of nodes, two coordinates for each node, the flows of each origin, one listed hub, the
+/// three factors, and the fixed costs. One space separates the numbers of a line, and each line ends with a line feed.
 #[tactic(auto, using(crate::proofs::Joining::whole_text))]
 pub fn instance_text(alloc: Global, seed: u32, size: u32) -> Result<Vec<u8>, AllocError>
     requires seed { seed ≤ 1000000 }
@@ -51,10 +52,11 @@ pub fn instance_text(alloc: Global, seed: u32, size: u32) -> Result<Vec<u8>, All
     Ok(text)
 }
 
-/// Each made-up text is read in the layout `ap`, with the fixed costs at its end and no other option, as the instance
-/// of the numbers that it was made from, and has no fault, whatever the seed. The sum rule holds too: at most 40,000
-/// flows of at most 9, factors of 5.75 together, and distances and fixed costs within their limits keep its sum below
-/// 10^27, in 10^-12, where 10^29 is allowed.
+/// For every seed, the made-up text is read without a fault as the instance of the numbers that it was made from. It is
+/// read in the layout `ap`, with fixed costs at its end and no other option.
+///
+/// The sum rule holds too. There are at most 40,000 flows of at most 9, the factors are 5.75 together, and distances
+/// and fixed costs are within their limits. So the sum is below 10^27, in 10^-12, where 10^29 is allowed.
 pub fn made_is_read()
     ensures { MadeIsRead }
 {}

@@ -12,8 +12,8 @@ use hub_model::{Instance, Refusal, Tail, Terms};
 use instance_ap::read_ap;
 use std::alloc::{AllocError, Global};
 
-/// The made-up instance of the seed and the number of nodes, read from its own text in the layout `ap` with the fixed
-/// costs at its end. It's refused for want of memory alone.
+/// The made-up instance of the seed and the number of nodes, read from its own text in the layout `ap`. It fails only
+/// where memory runs out.
 pub fn made_instance(alloc: Global, seed: u32, size: u32) -> Result<Instance, AllocError>
     requires seed { seed ≤ 1000000 }
     requires size_least { 1 ≤ size }

@@ -1,4 +1,4 @@
-//! What plans cost.
+//! The cost of a plan.
 
 ghost use Rattle.std.specs.Prelude.{◌≡◌, ◌≤◌};
 ghost use Rattle.std.specs.List.{AllZip};
@@ -8,7 +8,7 @@ ghost use Rattle.hub_spec.specs.Plans.{IsHubSet, IsRoute, plan_cost};
 
 use crate::Instance;
 
-/// The cost of the plan with these hubs and routes, in 10^-12: the hubs' fixed costs and what the routes cost.
+/// The cost of the plan with these hubs and routes, in 10^-12: fixed costs of the hubs plus costs of the routes.
 pub fn plan_cost(instance: &Instance, hubs: &[u32], routes: &[(u32, u32)]) -> u128
     requires hubs { IsHubSet instance.now hubs.now }
     requires routes { AllZip (IsRoute instance.now hubs.now) (commodities instance.now.size) routes.now }

@@ -1,4 +1,4 @@
-//! The cut of a hub set.
+//! The Benders cut of a hub set.
 
 ghost use Rattle.std.specs.Prelude.{◌≡◌, ℕ, ◌*◌, ◌<◌, ◌≤◌, pos, length, All, IfOk};
 ghost use Rattle.hub_spec.specs.Limits.{most_nodes, most_cost};
@@ -10,8 +10,8 @@ use crate::{Dual, HubSet};
 use std::alloc::{AllocError, Global};
 use std::marker::Model;
 
-/// A Benders cut with the hub set that it is of: a dual for each commodity, in order, the total of their prices and,
-/// for each node, the load, the sum of its values. Costs are in 10^-12.
+/// The Benders cut of a hub set: a dual for each commodity in order, the total of their prices, and the load of each
+/// node (the sum of its values). All are in 10^-12.
 #[derive(Clone, Drop)]
 pub struct Cut {
     set: HubSet,
@@ -33,10 +33,10 @@ impl Model for Cut {
 }
 
 impl Cut {
-    /// The cut of these duals with its sums, for this hub set and number of nodes.
+    /// The cut of these duals, for this hub set and number of nodes, with its exact sums.
     ///
-    /// There is one dual for each commodity, in order. Prices and values are at most 10^29, and the nodes that have
-    /// values are below `size`. Sums are exact. It fails where there is no memory.
+    /// There is one dual for each commodity, in order. Prices and values are at most 10^29, in 10^-12. Nodes with
+    /// values are below `size`. It fails where memory runs out.
     pub fn gather(alloc: Global, size: u32, set: HubSet, rows: Vec<Dual>) -> Result<Cut, AllocError>
         requires size_least { 1 ≤ size }
         requires size_most { size ≤ most_nodes }
@@ -68,7 +68,7 @@ impl Cut {
         &self.rows
     }
 
-    /// The duals, one for each commodity in order, without the rest.
+    /// The duals, one for each commodity in order. It consumes the cut.
     pub fn into_rows(self) -> Vec<Dual>
         ensures { result.items ≡ self.cut.duals }
     {
@@ -76,14 +76,14 @@ impl Cut {
         rows
     }
 
-    /// The sum of the prices.
+    /// The total: the sum of the prices, in 10^-12.
     pub fn total(&self) -> i128
         ensures { result ≡ pos (total self.now.cut) }
     {
         self.total
     }
 
-    /// The load of the node.
+    /// The load of the node, in 10^-12.
     pub fn load(&self, k: u32) -> i128
         ensures { result ≡ pos (load self.now.cut k) }
     {
@@ -93,7 +93,7 @@ impl Cut {
         }
     }
 
-    /// The load of each node.
+    /// The load of each node, in 10^-12.
     pub fn loads(&self) -> &[i128]
         ensures size { length result.now ≡ self.now.size }
         ensures value { AreLoads result.now self.now.cut }

@@ -1,4 +1,4 @@
-//! Which nodes are in a list; `nodes` tells whether one ascends.
+//! Membership in lists of nodes. `nodes` tells whether a list ascends.
 
 ghost use Rattle.std.specs.Prelude.{◌↔◌, IsTrue, All, Contains};
 
@@ -9,7 +9,7 @@ pub fn is_among(nodes: &[u32], k: u32) -> bool
     nodes.contains(&k)
 }
 
-/// Tells whether all members are in the list of nodes.
+/// Tells whether all members are in the list.
 pub fn are_among(nodes: &[u32], members: &[u32]) -> bool
     ensures { IsTrue result ↔ All (Contains nodes.now) members.now }
 {

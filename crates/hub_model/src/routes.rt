@@ -1,4 +1,4 @@
-//! The route that a commodity takes through hubs.
+//! The least route of a commodity through hubs.
 
 ghost use Rattle.std.specs.Prelude.{◌≡◌, ◌<◌, ◌≤◌, All, ◌⊎◌, Some, IfSome};
 ghost use Rattle.hub_spec.specs.Limits.{most_cost};
@@ -9,7 +9,7 @@ ghost use Rattle.hub_model.specs.FirstRoutes.{hubs_of, IsCheapest};
 
 use crate::Instance;
 
-/// The first and the last hub of a commodity's route, and what the route costs, in 10^-12.
+/// The first and last hub of a commodity's route, and its cost, in 10^-12.
 #[derive(Clone, Copy, Debug, PartialEq, Eq)]
 pub struct Route {
     pub first: u32,
@@ -17,8 +17,8 @@ pub struct Route {
     pub cost: u128,
 }
 
-/// The cheapest route that is allowed for the commodity from `i` to `j` through these hubs. Of those that cost the same
-/// it is the one with the smallest first hub, and then the smallest last hub.
+/// The cheapest allowed route of the commodity from `i` to `j` through these hubs. Ties go to the smallest first hub,
+/// then to the smallest last hub.
 pub fn least_route(instance: &Instance, hubs: &[u32], i: u32, j: u32) -> Route
     requires hubs { IsHubSet instance.now hubs.now }
     requires from { i < instance.now.size }

@@ -1,4 +1,4 @@
-//! Values of nodes, listed as a dual has them.
+//! Values of nodes, in the sparse list of a dual.
 
 ghost use Rattle.std.specs.Prelude.{◌≡◌, ◌+◌, ◌^◌, ◌<◌, ◌≤◌, [], ◌∷◌, ◌++◌, length, slice_index, All, vec_len, vec_capacity, IfOk};
 ghost use Rattle.hub_spec.specs.Limits.{most_cost};
@@ -9,7 +9,7 @@ ghost use Rattle.hub_model.specs.Values.{listed_dual};
 use crate::{Dual, Instance, signed};
 use std::alloc::{AllocError, Global};
 
-/// Lists the node with its value, if that is above 0. It takes no memory.
+/// Appends the node with its value, if the value is above 0. It allocates nothing.
 pub fn list_value(node: u32, value: u128, list: &mut Vec<(u32, i128)>)
     requires limit { value < 2 ^ 127 }
     requires room { vec_len list.old < vec_capacity list.old }
@@ -22,8 +22,8 @@ pub fn list_value(node: u32, value: u128, list: &mut Vec<(u32, i128)>)
     }
 }
 
-/// Lists the nodes whose value in a list by node is above 0, in their order, each with it, in place of what was listed. It
-/// takes no memory.
+/// Replaces the list by the nodes whose value is above 0, in their order, each with its value. `values` is indexed by
+/// node. It allocates nothing.
 pub fn list_values(nodes: &[u32], values: &[u128], list: &mut Vec<(u32, i128)>)
     requires nodes { All (λ k. k < length values.now) nodes.now }
     requires room { length nodes.now ≤ vec_capacity list.old }

@@ -1,4 +1,4 @@
-//! What a commodity costs by way of given hubs, where that is allowed.
+//! The cost of a commodity through two given hubs, where that route is allowed.
 
 ghost use Rattle.std.specs.Prelude.{◌≡◌, ◌<◌, ◌≤◌, IfSome};
 ghost use Rattle.hub_spec.specs.Limits.{most_cost};
@@ -6,7 +6,7 @@ ghost use Rattle.hub_spec.specs.Problem.{way_cost};
 
 use crate::Instance;
 
-/// The cost of the commodity from `i` to `j` by way of `k` first and `m` last, if that is allowed, in 10^-12.
+/// The cost of the route from `i` to `j` through first hub `k` and last hub `m`, if it is allowed, in 10^-12.
 pub fn cost_of_way(instance: &Instance, i: u32, j: u32, k: u32, m: u32) -> Option<u128>
     requires from { i < instance.now.size }
     requires to { j < instance.now.size }

@@ -16,7 +16,7 @@ use hub_model::Parts;
 use instance_cab::read_costs;
 use std::alloc::Global;
 
-/// The fixed costs of the costs file, where one is named: one for each node, in 10^-6.
+/// The fixed costs of the costs file, if one is named: one for each node, in 10^-6.
 pub fn costs_of_file<S: Shelf>(
     alloc: Global,
     file: Option<&str>,

@@ -15,7 +15,7 @@ use std::alloc::Global;
 /// An instance file and a costs file may each hold at most this many bytes.
 const FILE_LIMIT: u64 = 67_108_864;
 
-/// The bytes of the file, which is blamed where they are too many.
+/// The bytes of the file, at most 67,108,864. The fault of a longer file names `blamed`.
 pub fn read_file<S: Shelf>(
     alloc: Global,
     file: &str,

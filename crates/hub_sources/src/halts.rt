@@ -8,7 +8,7 @@ use hub_io::ReadEnd;
 use hub_model::{InstanceFault, Refusal};
 use std::alloc::AllocError;
 
-/// The file that is blamed for a fault of an instance.
+/// The file that has a fault.
 #[derive(Clone, Copy, Debug, PartialEq, Eq)]
 pub enum Blamed {
     Instance,
@@ -31,7 +31,7 @@ impl From<AllocError> for Halt {
     }
 }
 
-/// Why there is no instance, where what this file gives was refused.
+/// The reason to stop that this refusal stands for, where it concerns this file.
 pub fn halt_by(blamed: Blamed, refusal: Refusal) -> Halt
     ensures { result ≡ halted_by blamed refusal }
 {
@@ -41,7 +41,7 @@ pub fn halt_by(blamed: Blamed, refusal: Refusal) -> Halt
     }
 }
 
-/// Why there is no instance, where the reading of this file ended so.
+/// The reason to stop that this read error stands for, where it concerns this file.
 pub fn unread(blamed: Blamed, end: ReadEnd) -> Halt
     ensures { result ≡ unread_by blamed end }
 {

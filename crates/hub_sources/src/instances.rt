@@ -24,7 +24,7 @@ use instance_ap::read_ap;
 use instance_cab::{read_matrix, read_rows};
 use std::alloc::Global;
 
-/// The instance that the source names.
+/// Reads the instance that the source names, from its file and its costs file.
 pub fn read_instance<S: Shelf>(
     alloc: Global,
     source: &Source<'_>,

@@ -1,4 +1,4 @@
-//! What a command answers, and the writing of it.
+//! The answer of a command, and its output.
 
 ghost use Rattle.std.specs.Prelude.{◌≡◌};
 ghost use Rattle.hub_io.specs.Outside.{Puts};
@@ -16,7 +16,7 @@ use hub_make::put_demo;
 use hub_model::Instance;
 use network_report::report;
 
-/// What a command answers, before it is written.
+/// The answer of a command, before it is written.
 #[derive(Drop)]
 pub enum Answer {
     /// `check`, and `report` of bytes that do not certify: the line of a verdict.
@@ -25,11 +25,11 @@ pub enum Answer {
     Reported(Instance, Certificate),
     /// `make`: this text.
     Made(Vec<u8>),
-    /// `demo`: five lines on what was found for an instance of so many nodes.
+    /// `demo`: five lines on the finding, for an instance with this many nodes.
     Demonstrated(u32, Found),
 }
 
-/// The status with which the command ends, once its answer was written.
+/// The exit status of a command once its answer was written.
 pub fn status_of_answer(answer: &Answer) -> Status
     ensures { result ≡ answer_status answer.now }
 {
@@ -40,7 +40,7 @@ pub fn status_of_answer(answer: &Answer) -> Status
     }
 }
 
-/// The status of what a search found: whether its bound is its cost.
+/// The exit status of a finding: `Done` where its bound is its cost, else `Stopped`.
 pub fn status_of_finding(found: &Found) -> Status
     ensures { result ≡ finding_status found.now }
 {
@@ -51,7 +51,7 @@ pub fn status_of_finding(found: &Found) -> Status
     }
 }
 
-/// Puts the answer. It takes no memory.
+/// Puts the answer. It allocates nothing.
 pub fn put_answer<K: Sink>(answer: &Answer, sink: &mut K) -> Result<(), Failed>
     requires { IsWritable answer.now }
     ensures { Puts K.taken K.faults sink.old sink.new result (answer_text answer.now) }

@@ -1,42 +1,43 @@
-//! What a text that `solve` or `optimize` writes is to a check, that a search has one text, and that files have one fault.
+//! Laws of whole runs: the verdict on what `solve` and `optimize` write, one text for each search, one fault for each
+//! input.
 
 ghost use Rattle.hub_top.specs.Theorems.{BoundedIsBounds, OneCost, OneText, OptimizedIsOptimal, SolvedIsOptimal, StoppedIsBounds};
 ghost use Rattle.hub_sources.specs.Theorems.{OneBlame};
 
-/// The verdict on a text that solves an instance, and has at most 2^30 bytes, is optimal with its cost, and no other.
+/// A text of at most 2^30 bytes that solves an instance has exactly one verdict: `optimal`, with its cost.
 pub fn solved_is_optimal()
     ensures { SolvedIsOptimal }
 {}
 
-/// The verdict on a text with which a search stops, and that has at most 2^30 bytes, is bounds with its bound and cost,
-/// and no other.
+/// A text of at most 2^30 bytes with which a search stops early has exactly one verdict: `bounds`, with its bound and
+/// cost.
 pub fn stopped_is_bounds()
     ensures { StoppedIsBounds }
 {}
 
-/// The verdict on a text that optimizes an instance, and has at most 2^30 bytes, is optimal with its cost, and no other.
+/// A text of at most 2^30 bytes that optimizes an instance has exactly one verdict: `optimal`, with its cost.
 pub fn optimized_is_optimal()
     ensures { OptimizedIsOptimal }
 {}
 
-/// The verdict on a text with which `optimize` leaves a bound below the cost, and that has at most 2^30 bytes, is bounds with
-/// its bound and cost, and no other.
+/// A text of at most 2^30 bytes in which `optimize` leaves a bound below the cost has exactly one verdict: `bounds`,
+/// with its bound and cost.
 pub fn bounded_is_bounds()
     ensures { BoundedIsBounds }
 {}
 
-/// An instance, a version, a number of nodes and a course have one text, whatever the workers.
+/// Instance, version, node limit and method determine the text, whatever the workers.
 pub fn one_text()
     ensures { OneText }
 {}
 
-/// Two texts that solve one instance print one cost: `solve` by each rule, with Pareto-optimal cuts or without, `resolve`
-/// and `optimize` come to the same.
+/// All texts that solve one instance print the same cost: those of `solve` by each rule and kind of cuts, of `resolve`,
+/// and of `optimize`.
 pub fn one_cost()
     ensures { OneCost }
 {}
 
-/// Two faults that the same files have are one, told of one file.
+/// The same files have at most one fault, of one file.
 pub fn one_blame()
     ensures { OneBlame }
 {}

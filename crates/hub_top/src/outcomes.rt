@@ -1,4 +1,4 @@
-//! What a run came to, and the writing of it.
+//! The outcome of a run, and its output.
 
 ghost use Rattle.std.specs.Prelude.{◌≡◌, ◌⊎◌};
 ghost use Rattle.hub_io.specs.Outside.{Puts};
@@ -27,37 +27,37 @@ use proof_text::{Finding, Workers, write_found};
 use std::alloc::Global;
 use std::thread::Threads;
 
-/// What a run settled on.
+/// The outcome of a run before the memory for its output is reserved.
 #[derive(Drop)]
 pub enum Settled {
     /// The answer of a command.
     Answered(Answer),
-    /// What this search found for the instance, whose certificate is wanted.
+    /// The finding of this search for the instance, to be written as a certificate.
     Found(Instance, Found, Search),
     /// All candidates together are infeasible for the commodity from `i` to `j`.
     NoNetwork { i: u32, j: u32 },
-    /// The words are no command.
+    /// The arguments are no command.
     Usage,
-    /// A command has no answer.
+    /// The command has no answer.
     Halted(Halt),
 }
 
-/// What a run came to, with all that the writing of it takes.
+/// The outcome of a run, with the memory for its output.
 #[derive(Drop)]
 pub enum Intended<'a> {
     /// The answer of a command.
     Answered(&'a Answer),
-    /// The certificate of what this search found for the instance, with room to make its duals in.
+    /// The finding of this search for the instance, with the workspace that makes the duals of its certificate.
     Found(&'a Instance, &'a Found, Search, DualLender<'a>),
     /// All candidates together are infeasible for the commodity from `i` to `j`.
     NoNetwork { i: u32, j: u32 },
-    /// The words are no command.
+    /// The arguments are no command.
     Usage,
-    /// A command has no answer.
+    /// The command has no answer.
     Halted(Halt),
 }
 
-/// What a run comes to that settled on this: where memory for the writing of a certificate runs out, it is want of memory.
+/// The outcome with the memory for its output. Where that memory runs out, the outcome is that memory ran out.
 pub fn intend<'a>(alloc: Global, what: &'a Settled) -> Intended<'a>
     requires { CanBeWritten what.now }
     ensures outcome { (outcome result ≡ came_to what.now) ⊎ (outcome result ≡ memory) }
@@ -75,8 +75,8 @@ pub fn intend<'a>(alloc: Global, what: &'a Settled) -> Intended<'a>
     }
 }
 
-/// Writes what a run came to: an answer on out, and why there is none on err. It asks for no memory but for the workers of a
-/// certificate's text, and goes on without them where there is none.
+/// Writes the outcome of a run: an answer to `out`, or the reason why there is none to `err`. It allocates only for the
+/// workers that make a certificate's text, and does without them where memory runs out.
 pub fn write<R: Threads + Sync, O: Sink, E: Sink>(
     rt: &R,
     alloc: Global,

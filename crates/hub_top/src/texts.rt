@@ -33,7 +33,7 @@ pub fn put_usage<K: Sink>(sink: &mut K) -> Result<(), Failed>
     )
 }
 
-/// Puts the line for want of memory. It takes none.
+/// Puts the line that says that memory ran out. It allocates nothing.
 #[tactic(auto, unfolding(crate::specs::Texts::memory_text))]
 pub fn put_memory<K: Sink>(sink: &mut K) -> Result<(), Failed>
     ensures { Puts K.taken K.faults sink.old sink.new result memory_text }
@@ -41,7 +41,7 @@ pub fn put_memory<K: Sink>(sink: &mut K) -> Result<(), Failed>
     sink.put(b"hub: out of memory\n")
 }
 
-/// Puts the line for a shelf that failed.
+/// Puts the line that says that reading a file failed.
 #[tactic(auto, unfolding(crate::specs::Texts::read_text))]
 pub fn put_read<K: Sink>(sink: &mut K) -> Result<(), Failed>
     ensures { Puts K.taken K.faults sink.old sink.new result read_text }
@@ -49,7 +49,7 @@ pub fn put_read<K: Sink>(sink: &mut K) -> Result<(), Failed>
     sink.put(b"hub: read failed\n")
 }
 
-/// Puts the line that tells of the commodity from `i` to `j` that no network serves it.
+/// Puts the line that says that no network has a route from `i` to `j`.
 #[tactic(auto, unfolding(crate::specs::Texts::no_network_text))]
 pub fn put_no_network<K: Sink>(i: u32, j: u32, sink: &mut K) -> Result<(), Failed>
     ensures { Puts K.taken K.faults sink.old sink.new result (no_network_text (i, j)) }

@@ -23,26 +23,29 @@ use hub_words::{Command, asked};
 use std::alloc::Global;
 use std::thread::Threads;
 
-/// Runs the command that the words give, of which the first is the program's name.
+/// Runs the command that the arguments give, the first of which is the program's name.
 ///
-/// It reads and decides first, takes the room that the writing needs, and then writes: the answer of the command on `out`,
-/// or what hinders it on `err`. Words that are no command, `make` and `demo` call nothing on the shelf, and the others
-/// begin only files that the words name. The runtime serves the workers of a search and of a certificate's text, the gate
-/// those of a search: no clause reads them, nor the number of workers, and out takes the same text whatever they are. With
-/// Pareto-optimal cuts `solve` writes the third version of a certificate's text, in which each Pareto-optimal cut has its
-/// mark, its hub set and a proof of each dual; else the first or the second, with no mark.
+/// It reads and decides first, then reserves the memory for its output, and then writes. The answer of the command goes
+/// to `out`, or the reason why there is none to `err`. Arguments that are no command, `make` and `demo` read no file;
+/// all others read only files that the arguments name.
 ///
-/// - `ends`: there is an outcome that the words, the files and the shelf's faults allow, and it was written, with its
-///   status; where a sink failed, a prefix of the text that it was to take, and nothing further.
-/// - `means`: what each status says of the words, the files, the faults and what `out` took.
-/// - `complete`: where no fault rose, words that are no command end with status 3, a fault of the instance with 4, `solve`,
-/// `optimize` and `resolve` with 8 where all candidates together are infeasible for a commodity, else `solve` and `demo`
-/// with 0 or 1 as the
-///   search rule says, and with 0 where enough nodes are allowed, `resolve` so too where the older certificate serves, which one that
-///   certifies for other fixed costs or numbers of hubs does, and else with 2, `optimize` with 0 or 1, with 0 where no gap
-///   and enough nodes are allowed, and with 2 where the bytes of the older certificate that is named are none of its size, `check` with 0, 1 or 2 by the verdict on the certificate's bytes, `report` with 0 or 2 by
-///   it, and `make` with 0; or it is want of memory.
-/// - `headline`: the headline, whose three sentences stand with their meaning in `specs/Headline.antt`.
+/// The runtime runs the workers of a search and of a certificate's text; the gate is for the workers of a search. No
+/// clause depends on them or on the number of workers, so the output is the same whatever they are. With Pareto-optimal
+/// cuts `solve` writes the third version of a certificate, in which each such cut has its mark. Without them it writes
+/// the first or the second, with no mark.
+///
+/// - `ends`: the run has an outcome that the arguments, the files and the shelf's faults allow. It was written, with
+///   its status. Where a sink failed, it took a prefix of its text, and nothing further.
+/// - `means`: what each status says of the arguments, the files, the faults, and the bytes that `out` took.
+/// - `complete`: the status of each command where nothing failed, unless memory ran out. Arguments that are no command
+///   end with 3, a fault of the instance with 4. `solve`, `optimize` and `resolve` end with 8 where all candidates
+///   together are infeasible for a commodity. Otherwise `solve` and `demo` end with 0 or 1 as the search rule says, and
+///   with 0 where enough nodes are allowed. So does `resolve` where it accepts the older certificate, and else it ends
+///   with 2. It accepts each one that certifies for other fixed costs or another number of hubs. `optimize` ends with 0
+///   or 1, and with 0 where no gap and enough nodes are allowed. It ends with 2 where the older certificate is not one
+///   of its size. `check` ends with 0, 1 or 2 by the verdict on the certificate's bytes, `report` with 0 or 2 by it,
+///   and `make` with 0.
+/// - `headline`: the headline, whose three sentences are in `specs/Headline.antt` with their meaning.
 pub fn run<R: Threads + Sync, S: Shelf, O: Sink, E: Sink, G: Gate>(
     rt: &R,
     alloc: Global,

@@ -1,4 +1,4 @@
-//! The command that the words give.
+//! The command that the arguments give.
 
 ghost use Rattle.std.specs.Prelude.{◌≡◌, IfOk, IfSome, codes, option_map};
 ghost use Rattle.hub_words.specs.Requests.{AreSources, AsksListed, HasOptions, IsGap, IsLawful, IsMaking, IsSearch, IsSolving, gap_of, instance, making_of, search_of, solved};
@@ -17,7 +17,7 @@ use cert_scan::Version;
 use clap::ArgMatches;
 use std::alloc::{AllocError, Global};
 
-/// The command that the words give, of which the first is the program's name; none where they are no command.
+/// The command that the arguments give, the first of which is the program's name. `None` where they are no command.
 pub fn asked<'a>(alloc: Global, words: &'a [String]) -> Result<Option<Command<'a>>, AllocError>
     ensures command { IfOk result (λ command. requested command ≡ spec.asked (texts words.entry.now)) }
     ensures limits { IfOk result (λ command. IfSome command (λ c. IfSome (instance (request_of c)) HasOptions)) }

@@ -1,4 +1,4 @@
-//! How an instance is to be solved, as the words give it.
+//! The method of a search, from the arguments.
 
 ghost use Rattle.std.specs.Prelude.{◌≡◌, IfSome, codes, option_map};
 ghost use Rattle.hub_words.specs.Requests.{IsGap, gap_of};

@@ -1,4 +1,4 @@
-//! The limits of the numbers that the words give beside the options of an instance.
+//! The limits of the numbers among the arguments, besides those of the instance options.
 
 /// Of the nodes that a search is held to: 2^63.
 pub(crate) const MOST_SEARCH_NODES: u64 = 9_223_372_036_854_775_808;

@@ -1,4 +1,4 @@
-//! An instance to be made, as the words give it.
+//! A made-up instance, from the arguments.
 
 ghost use Rattle.std.specs.Prelude.{◌≡◌, IfSome, codes, option_map};
 ghost use Rattle.hub_words.specs.Requests.{IsMaking};

@@ -1,4 +1,4 @@
-//! The command as it is told to clap, and the parse of the words.
+//! The command line as clap defines it, and its parse.
 
 ghost use Rattle.std.specs.Prelude.{◌≡◌, codes, false, fold, IfOk, option_and_then};
 ghost use Rattle.clap.specs.Words.{app_of, new_app, rule_of, subcommand_rows_of};
@@ -12,7 +12,7 @@ use clap::error::ErrorKind;
 use clap::{Arg, ArgAction, ArgMatches, Command};
 use std::alloc::{AllocError, Global};
 
-/// The instance options that have a value.
+/// The instance options that take a value.
 static OPTIONS: [&str; 11] = [
     "order",
     "tail",

@@ -1,4 +1,4 @@
-//! What the words of a command line ask for.
+//! What a command line requests.
 
 use cert_scan::Version;
 use hub_model::Terms;
@@ -11,23 +11,23 @@ pub enum Layout {
     AustraliaPost,
 }
 
-/// An instance as the words name it.
+/// An instance as the arguments name it.
 #[derive(Drop)]
 pub struct Source<'a> {
     pub layout: Layout,
     /// The name of the instance file.
     pub file: &'a str,
     pub terms: Terms,
-    /// The name of the costs file, where one is given.
+    /// The name of the costs file, if there is one.
     pub costs: Option<&'a str>,
 }
 
-/// How long and by how many workers a search may run, and in which version its certificate is written.
+/// The node limit and the number of workers of a search, and the version of its certificate.
 #[derive(Clone, Copy, Debug, PartialEq, Eq)]
 pub struct Search {
-    /// At most how many nodes the search makes, if it is held to a number: 1 to 2^63.
+    /// The most nodes of the search, from 1 to 2^63, if they are limited.
     pub nodes: Option<u64>,
-    /// 1 to 64.
+    /// The number of workers, from 1 to 64.
     pub workers: u32,
     pub version: Version,
 }
@@ -35,31 +35,31 @@ pub struct Search {
 /// The rules of a search.
 #[derive(Clone, Copy, Debug, PartialEq, Eq)]
 pub enum SearchRule {
-    /// Node by node, the open child first.
+    /// Depth first, node by node, the open child first.
     NodeByNode,
-    /// The same with Pareto-optimal cuts, where a hub set has one.
+    /// As `NodeByNode`, with Pareto-optimal cuts, where a hub set has one.
     ByCoreCuts,
-    /// In rounds of nodes side by side.
+    /// By rounds of nodes that are evaluated side by side.
     ByRounds,
 }
 
-/// How an instance is solved.
+/// The method by which an instance is solved.
 #[derive(Clone, Copy)]
 pub enum How<'a> {
-    /// By this rule of the search.
+    /// Branch and bound by this rule (`solve`).
     Follow(SearchRule),
-    /// Again, node by node, beginning with the cuts of the older certificate in the file of this name.
+    /// Node by node, with a warm start from the older certificate in the file of this name (`resolve`).
     Again(&'a str),
-    /// By a search that follows no rule.
+    /// Branch and bound driven by a heuristic (`optimize`).
     Freely {
         /// How far the bound may be below the cost, in thousandths of a per cent of the cost: 0 to 100,000.
         gap: u32,
-        /// The name of an older certificate's file, where the search is to begin with what it says.
+        /// The name of the file of an older certificate from which the search begins, if there is one.
         from: Option<&'a str>,
     },
 }
 
-/// What is to be solved, how, and by which search.
+/// The instance to solve, the method, and the limits of the search.
 #[derive(Drop)]
 pub struct Solving<'a> {
     pub source: Source<'a>,
@@ -67,26 +67,26 @@ pub struct Solving<'a> {
     pub search: Search,
 }
 
-/// An instance to be made.
+/// A made-up instance.
 #[derive(Clone, Copy, Debug, PartialEq, Eq)]
 pub struct Making {
-    /// 0 to 1,000,000.
+    /// The seed, from 0 to 1,000,000.
     pub seed: u32,
-    /// The number of nodes, 1 to 200.
+    /// The number of nodes, from 1 to 200.
     pub size: u32,
 }
 
-/// A command that the words give.
+/// The command that the arguments give.
 #[derive(Drop)]
 pub enum Command<'a> {
     /// Solve the instance.
     Solve(Solving<'a>),
     /// Check the certificate in the file of this name against the instance.
     Check(Source<'a>, &'a str),
-    /// Report on the certificate in the file of this name, which is one of the instance.
+    /// Report on the network of the certificate in the file of this name.
     Report(Source<'a>, &'a str),
-    /// Write the text of a made instance.
+    /// Write the text of a made-up instance.
     Make(Making),
-    /// Make an instance and solve it.
+    /// Make up an instance and solve it.
     Demo(Making, Search),
 }

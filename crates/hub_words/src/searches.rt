@@ -1,4 +1,4 @@
-//! How a search is to run, as the words give it.
+//! The limits of a search, from the arguments.
 
 ghost use Rattle.std.specs.Prelude.{◌≡◌, IfSome, codes, option_map};
 ghost use Rattle.cert_scan.specs.Versions.{version_number};

@@ -1,4 +1,4 @@
-//! The options of an instance that are single values, and the options with the candidates.
+//! The instance options that are single values, and those with the candidates.
 
 ghost use Rattle.std.specs.Prelude.{◌≡◌, IfSome, Some, option_map};
 ghost use Rattle.file_spec.specs.Options.{australia_post, listed_number, IsOptions};

@@ -1,4 +1,4 @@
-//! What is to be solved, as the words give it.
+//! The instance to solve and the method, from the arguments.
 
 ghost use Rattle.std.specs.Prelude.{◌≡◌, IfOk, IfSome, Some, codes, option_map, true};
 ghost use Rattle.cert_scan.specs.Versions.{version_number};

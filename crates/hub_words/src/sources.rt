@@ -1,4 +1,4 @@
-//! An instance as the words name it, put together from its layout, file, options and costs file.
+//! An instance as the arguments name it: layout, file, options and costs file.
 
 ghost use Rattle.std.specs.Prelude.{◌≡◌, IfOk, IfSome, codes, option_map};
 ghost use Rattle.hub_model.specs.Asked.{tail_of};

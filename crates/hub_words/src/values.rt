@@ -1,4 +1,4 @@
-//! The values of single words and options, by their forms.
+//! The values of single arguments and options, by their forms.
 
 ghost use Rattle.std.specs.Prelude.{◌≡◌, ◌≤◌, true, length, Some, IfSome, option_map};
 ghost use Rattle.std.specs.List.{list_any, after_first};

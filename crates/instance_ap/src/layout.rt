@@ -12,12 +12,12 @@ use hub_model::{Factors, MOST_FLOW, MOST_LISTED, Numbers, Parts, Refusal, Terms}
 use std::alloc::Global;
 use token_reader::Reader;
 
-/// Reads an instance file in the layout of Australia Post: what it gives, or the first fault in the order of tokens.
+/// Reads an instance file in the layout of Australia Post: its contents, or the first fault in the order of tokens.
 ///
-/// The file holds the number of nodes n, n pairs of coordinates, n * n flows row by row, the listed number of hubs
-/// and the factors of collection, trunk and delivery. The option `tail` tells what follows: fixed costs of the n nodes
-/// and nothing more, or whatever it is, which is not looked at. Coordinates, flows and fixed costs are read in 10^-6
-/// and factors in 10^-3, all cut. A distance is that in the plane, divided by the option `divide` and rounded down.
+/// The file has the number of nodes n, n pairs of coordinates, n * n flows row by row, the listed number of hubs, and
+/// the factors of collection, trunk and delivery. The option `tail` says what follows: fixed costs of the n nodes and
+/// nothing more, or anything, which is ignored. Coordinates, flows and fixed costs are read in 10^-6 and factors in
+/// 10^-3, all truncated. A distance is the Euclidean one, divided by the option `divide` and rounded down.
 pub fn read_ap(alloc: Global, bytes: &[u8], terms: &Terms) -> Result<Parts, Refusal>
     ensures contents { IfOk result (λ parts. HasContents australia_post terms.now bytes.now parts) }
     ensures fault { IfErr result (IsRefused australia_post terms.now bytes.now) }

@@ -11,7 +11,7 @@ use hub_model::Refusal;
 use std::alloc::Global;
 use token_reader::Reader;
 
-/// Reads a costs file: a fixed cost for each of n nodes, in 10^-6 and cut, and nothing more.
+/// Reads a costs file: a fixed cost for each of `n` nodes, in 10^-6, truncated, and nothing more.
 pub fn read_costs(alloc: Global, bytes: &[u8], n: u32) -> Result<Vec<i128>, Refusal>
     requires least { 1 ≤ n }
     requires most { n ≤ most_nodes }

@@ -9,7 +9,7 @@ use hub_model::{MOST_COST_READ, MOST_DISTANCE, MOST_FLOW};
 pub(crate) enum Kind {
     /// Flows, in 10^-6.
     Flow,
-    /// Distances, in 10^-3, which are then divided.
+    /// Distances, in 10^-3, to be divided by `divide`.
     Distance { divide: u32 },
     /// Fixed costs, in 10^-6.
     Cost,

@@ -12,11 +12,11 @@ use hub_model::{Numbers, Order, Parts, Refusal, Terms};
 use std::alloc::Global;
 use token_reader::Reader;
 
-/// Reads an instance file in the matrix layout: what it gives, or the first fault in the order of tokens.
+/// Reads an instance file in the matrix layout: its contents, or the first fault in the order of tokens.
 ///
-/// The file holds the number of nodes n, then n * n flows and n * n distances row by row, and nothing more; the option
-/// `order` tells which matrix stands first. A flow is read in 10^-6 and a distance in 10^-3, both cut; distances are
-/// then divided by the option `divide` and rounded down, and the distance from a node to itself is 0, whatever the file
+/// The file has the number of nodes n, then n * n flows and n * n distances row by row, and nothing more. The option
+/// `order` says which matrix comes first. A flow is read in 10^-6 and a distance in 10^-3, both truncated. Distances
+/// are divided by the option `divide` and rounded down. The distance from a node to itself is 0, whatever the file
 /// says. All factors are 1.
 pub fn read_matrix(alloc: Global, bytes: &[u8], terms: &Terms) -> Result<Parts, Refusal>
     ensures contents { IfOk result (λ parts. HasContents cab_matrix terms.now bytes.now parts) }

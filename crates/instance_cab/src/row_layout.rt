@@ -13,12 +13,12 @@ use std::alloc::Global;
 use std::collections::BTreeMap;
 use token_reader::Reader;
 
-/// Reads an instance file in the row layout: what it gives, or the first fault in the order of tokens.
+/// Reads an instance file in the row layout: its contents, or the first fault in the order of tokens.
 ///
-/// The file holds the number of nodes n, and then rows of two nodes, counted from 1, the flow and the distance from the
-/// first to the second, in any order and each pair at most once. A pair of two nodes needs its row; a node and itself
-/// have flow 0 where no row says otherwise. A flow is read in 10^-6 and a distance in 10^-3, both cut; distances are then
-/// divided by the option `divide` and rounded down, and the distance from a node to itself is 0, whatever the file
+/// The file has the number of nodes n and then rows. A row has two nodes, counted from 1, and the flow and the distance
+/// from the first to the second. Rows come in any order, each pair at most once. Two different nodes need their row; a
+/// node and itself have flow 0 without one. A flow is read in 10^-6 and a distance in 10^-3, both truncated. Distances
+/// are divided by the option `divide` and rounded down. The distance from a node to itself is 0, whatever the file
 /// says. All factors are 1.
 pub fn read_rows(alloc: Global, bytes: &[u8], terms: &Terms) -> Result<Parts, Refusal>
     ensures contents { IfOk result (λ parts. HasContents cab_rows terms.now bytes.now parts) }

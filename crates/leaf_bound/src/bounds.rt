@@ -1,4 +1,4 @@
-//! The bound of a branch, and whether it closes a target.
+//! The bound of a branch, and whether it fathoms at a cutoff.
 
 ghost use Rattle.std.specs.Prelude.{◌≡◌, ℕ, ◌^◌, ◌*◌, ◌↔◌, ◌<◌, ◌≤◌, pos, ◌-ℤ◌, length, slice_index_or, IsTrue};
 ghost use Rattle.hub_spec.specs.Limits.{most_nodes, most_denominator};
@@ -11,7 +11,7 @@ use crate::Weighting;
 use crate::gains::{ROOM, sum_of_gains, sum_of_losses, write_gains_and_base};
 use hub_model::{Branch, difference, signed};
 
-/// The bound of the branch under these weights, in 10^-12, times the denominator.
+/// The bound of the branch under these weights (its Lagrangean bound), in 10^-12, times the denominator.
 pub fn bound(weighting: &Weighting, branch: &Branch) -> i128
     requires numbers { AreWeightingNumbers weighting.now }
     requires nodes { IsBranchWithin weighting.now branch.now }
@@ -24,7 +24,8 @@ pub fn bound(weighting: &Weighting, branch: &Branch) -> i128
     bound_by(base, gains, branch)
 }
 
-/// The bound of the branch by the gain of each node and the weighted sum of the cuts' totals.
+/// The bound of the branch, from the reduced cost (`gains`) of each node and the weighted sum of the cuts' totals
+/// (`base`).
 pub fn bound_by(base: u128, gains: &[i128], branch: &Branch) -> i128
     requires base { base ≤ most_gain }
     requires gains { AreGains gains.now branch.now }
@@ -40,8 +41,8 @@ pub fn bound_by(base: u128, gains: &[i128], branch: &Branch) -> i128
     base + inside + free
 }
 
-/// Tells whether the bound of the branch under these weights closes the target, which is in 10^-12: no plan of the
-/// branch then costs less than the target.
+/// Tells whether the branch is fathomed by its bound at the cutoff `target`, in 10^-12: then no plan of the branch
+/// costs less than `target`.
 pub fn closes(weighting: &Weighting, branch: &Branch, target: u128) -> bool
     requires numbers { AreWeightingNumbers weighting.now }
     requires nodes { IsBranchWithin weighting.now branch.now }
@@ -51,7 +52,7 @@ pub fn closes(weighting: &Weighting, branch: &Branch, target: u128) -> bool
     bound(weighting, branch) > threshold(weighting.denom, target)
 }
 
-/// What a bound has to be above to close the target: the denominator times one less than the target.
+/// The number that a bound must exceed to fathom at the cutoff `target`: the denominator times one less than `target`.
 pub fn threshold(denom: u128, target: u128) -> i128
     requires denom { denom ≤ most_denominator }
     requires target { target ≤ 10 ^ 30 }

@@ -1,4 +1,4 @@
-//! The gains of nodes.
+//! The reduced costs (gains) of nodes.
 
 ghost use Rattle.std.specs.Prelude.{◌≡◌, ℕ, ◌*◌, ◌<◌, ◌≤◌, pos, ◌-ℤ◌, length, slice_index_or, All};
 ghost use Rattle.std.specs.Int.{int_min};
@@ -15,8 +15,8 @@ use hub_model::MOST_NODES;
 /// Room for a number of each node.
 pub(crate) const ROOM: usize = MOST_NODES as usize;
 
-/// The gain of the node `k` under these weights: what the bound of a branch rises by where the node, so far closed, is
-/// a hub, in 10^-12, times the denominator.
+/// The gain of the node `k` under these weights: its reduced cost of opening, in 10^-12, times the denominator. The
+/// bound of a branch rises by it where a closed node is opened.
 pub fn gain(weighting: &Weighting, k: u32) -> i128
     requires numbers { AreWeightingNumbers weighting.now }
     requires node { IsNodeWithin weighting.now k }
@@ -29,8 +29,8 @@ pub fn gain(weighting: &Weighting, k: u32) -> i128
     gains[k as usize]
 }
 
-/// Writes the gain of each node, all of them by one pass over the cuts. Of a node whose numbers are not within their
-/// limits, it writes any number.
+/// Writes the gain of each node, in one pass over the cuts. For a node whose numbers pass their limits, the gain
+/// written is unspecified.
 pub fn write_gains(weighting: &Weighting, gains: &mut [i128])
     requires numbers { AreWeightingNumbers weighting.now }
     requires room { length gains.old ≡ length weighting.now.fixed.now }
@@ -40,7 +40,7 @@ pub fn write_gains(weighting: &Weighting, gains: &mut [i128])
     write_gains_and_base(weighting, gains);
 }
 
-/// The same, by the same pass; it gives the weighted sum of the cuts' totals, on which every bound stands.
+/// Writes the gains as `write_gains` does, in one pass, and returns the weighted sum of the cuts' totals.
 pub fn write_gains_and_base(weighting: &Weighting, gains: &mut [i128]) -> u128
     requires numbers { AreWeightingNumbers weighting.now }
     requires room { length gains.old ≡ length weighting.now.fixed.now }

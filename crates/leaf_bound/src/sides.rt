@@ -1,9 +1,9 @@
 //! The side of a candidate that stays.
 
-/// The side of a candidate that stays.
+/// The value to which variable fixing sets a candidate.
 #[derive(Clone, Copy, Debug, PartialEq, Eq)]
 pub enum Side {
-    /// The candidate is a hub.
+    /// The candidate is open (a hub).
     In,
     /// The candidate is closed.
     Out,

@@ -1,6 +1,7 @@
-//! Weighted sums over the cuts. Most weights of a large pool are 0: a cut that has none is not looked at.
+//! Weighted sums over the cuts. Most weights of a large pool are 0; cuts without weight are skipped.
 //!
-//! Loads of nodes that are no candidates may be any numbers. So sums and products wrap: what a bound reads does not.
+//! Loads of nodes that are no candidates may be any numbers. So sums and products wrap, but not those that a bound
+//! reads.
 
 ghost use Rattle.std.specs.Prelude.{◌≡◌, ℕ, ◌+◌, ◌*◌, ◌/◌, ◌<◌, ◌≤◌, ◌^◌, length, slice_index_or};
 ghost use Rattle.leaf_bound.specs.Bounds.{weighted_total, weighted_load};

@@ -1,6 +1,6 @@
-//! What a bound is made of.
+//! The data of a bound.
 
-/// What a bound is made of: weights on cuts, as a pool lends their numbers.
+/// The data of a bound: weights on cuts, with the cuts' numbers borrowed from a pool.
 #[derive(Clone, Copy)]
 pub struct Weighting<'a> {
     /// The total of each cut, in 10^-12.

@@ -1,4 +1,4 @@
-//! Tables of legs between nodes and candidates, worked out of the instance's distances.
+//! Tables of legs between nodes and candidates, from the instance's distances.
 
 ghost use Rattle.std.specs.Prelude.{◌≡◌, ◌*◌, ◌<◌, ◌≤◌, length, take, fold, max};
 ghost use Rattle.hub_spec.specs.Limits.{most_nodes, most_distance, most_factor};

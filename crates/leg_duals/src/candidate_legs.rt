@@ -1,4 +1,4 @@
-//! The legs by way of the candidates of an instance, made once.
+//! The legs to, between and from the candidates of an instance.
 
 ghost use Rattle.std.specs.Prelude.{◌≡◌, ℕ, ◌+◌, ◌*◌, ◌<◌, ◌≤◌, length, slice_index, IfOk};
 ghost use Rattle.hub_spec.specs.Limits.{most_nodes};
@@ -16,8 +16,8 @@ use hub_model::Instance;
 use std::alloc::{AllocError, Global};
 use std::marker::Model;
 
-/// The legs of an instance's routes by way of its candidates, by unit of flow, and the ceiling of all lengths. They are
-/// seen as the instance that they are of.
+/// The legs of an instance's routes through its candidates, per unit of flow, and a ceiling of all lengths. They are
+/// seen as the instance.
 ///
 /// They are only read, so several workers may share them. Each leg is at most 10^16, in 10^-6.
 #[derive(Drop)]
@@ -83,14 +83,14 @@ impl<'a> CandidateLegs<'a> {
         self.places
     }
 
-    /// The greatest distance.
+    /// The greatest distance, in 10^-3.
     pub fn farthest(&self) -> u64
         ensures { result ≡ greatest self.now.distances }
     {
         self.farthest
     }
 
-    /// The ceiling of all lengths: the sum of the factors times the greatest distance.
+    /// The ceiling of all lengths, in 10^-6: the sum of the factors times the greatest distance.
     pub fn ceiling(&self) -> u64
         ensures value { result ≡ length_ceiling self.now }
         ensures limit { result ≤ most_length }
@@ -106,7 +106,7 @@ impl<'a> CandidateLegs<'a> {
         &self.collect
     }
 
-    /// The legs of trunk, row by row.
+    /// The trunk legs, row by row.
     pub fn trunk_table(&self) -> &[u64]
         ensures { IsLegTable (length self.now.candidates) (length self.now.candidates) (trunk_length self.now) result.now }
     {
@@ -128,7 +128,7 @@ impl<'a> CandidateLegs<'a> {
         row(&self.collect, i as usize, self.places)
     }
 
-    /// The legs of trunk from the candidate at the place to each candidate.
+    /// The trunk legs from the candidate with index `x` to each candidate.
     pub fn trunk_legs(&self, x: usize) -> &[u64]
         requires { x < length self.now.candidates }
         ensures { IsLegRow (length self.now.candidates) (trunk_length self.now x) result.now }

@@ -1,4 +1,4 @@
-//! What is worked out of one origin.
+//! The duals of one origin.
 
 ghost use Rattle.std.specs.Prelude.{◌≡◌, ◌+◌, ◌*◌, ◌<◌, ◌≤◌, [], length, All, IfOk, vec_capacity};
 ghost use Rattle.unit_duals.specs.Limits.{most_room};
@@ -12,11 +12,11 @@ use crate::turns::set_values;
 use std::alloc::{AllocError, Global};
 use std::marker::Model;
 
-/// The duals of all commodities of one origin by unit of flow, over the routes that are allowed: a price for each
-/// destination, and for each place a row of values, one for each destination; with the room that was taken for them.
+/// The minimal duals of all commodities of one origin, per unit of flow, over the allowed routes. There is a price for
+/// each destination, and a row of values for each position of the order, with one value for each destination.
 ///
-/// A worker has its own, and works out one origin after another. Where a commodity has no flow, its price and its values
-/// may be anything.
+/// The workspace is allocated once; a worker has its own, and computes one origin after another. Price and values of a
+/// commodity without flow are unspecified.
 #[derive(Drop)]
 pub struct LimitedDuals {
     room: usize,
@@ -38,7 +38,7 @@ impl Model for LimitedDuals {
 }
 
 impl LimitedDuals {
-    /// Duals with room for this many destinations and this many stops, as yet of none.
+    /// An empty workspace for at most `room` destinations and at most `room` stops.
     pub fn new(alloc: Global, room: usize) -> Result<LimitedDuals, AllocError>
         requires { room ≤ most_room }
         ensures { IfOk result (λ d. d ≡ record { room = room; prices = []; values = [] }) }
@@ -52,7 +52,7 @@ impl LimitedDuals {
         })
     }
 
-    /// Works out the duals of all commodities from the origin of the ways to their destinations. It takes no memory.
+    /// Computes the duals of all commodities from the origin of the routes to their destinations. It allocates nothing.
     pub fn work_out(&mut self, ways: &Ways)
         requires size { ways.now.size ≤ self.old.room }
         requires stops { stop_count ways.now ≤ self.old.room }
@@ -81,7 +81,7 @@ impl LimitedDuals {
         &self.prices
     }
 
-    /// The values, row by row: a row for each place, a value for each destination.
+    /// The values, row by row: a row for each position, a value for each destination.
     pub fn values(&self) -> &[u64]
         ensures { result.now ≡ self.now.values }
     {

@@ -1,4 +1,4 @@
-//! Rows of legs, worked out of the instance's distances.
+//! Rows of legs, from the instance's distances.
 
 ghost use Rattle.std.specs.Prelude.{◌≡◌, ℕ, ◌+◌, ◌*◌, ◌<◌, ◌≤◌, length, slice_index, All, vec_len, vec_capacity};
 ghost use Rattle.hub_spec.specs.Limits.{most_distance, most_factor};

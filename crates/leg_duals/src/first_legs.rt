@@ -9,8 +9,8 @@ use hub_model::Instance;
 use std::alloc::{AllocError, Global};
 use std::marker::Model;
 
-/// The legs from one origin to the stops, by unit of flow, with the room that was taken for them: so many stops there
-/// may be. A worker has its own.
+/// The legs from one origin to the stops, per unit of flow. The workspace is allocated once, and each worker has its
+/// own.
 #[derive(Drop)]
 pub struct FirstLegs {
     room: usize,
@@ -30,7 +30,7 @@ impl Model for FirstLegs {
 }
 
 impl FirstLegs {
-    /// Legs with room for this many stops, as yet to none.
+    /// An empty workspace for at most `room` stops.
     pub fn new(alloc: Global, room: usize) -> Result<FirstLegs, AllocError>
         requires { room ≤ most_room }
         ensures { IfOk result (λ f. f ≡ record { room = room; items = [] }) }
@@ -41,7 +41,8 @@ impl FirstLegs {
         })
     }
 
-    /// Makes these the legs from the origin `i` to the places of the order and the hubs. It takes no memory.
+    /// Fills this with the legs from the origin `i` to the positions of the order and to the hubs. It allocates
+    /// nothing.
     pub fn fill(&mut self, instance: &Instance, hubs: &[u32], order: &[u32], i: u32)
         requires hubs { All (λ k. k < instance.now.size) hubs.now }
         requires order { All (λ k. k < instance.now.size) order.now }

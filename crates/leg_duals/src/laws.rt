@@ -1,33 +1,33 @@
-//! What the lengths of ways are in the instance: each function is empty, and its contract is the law.
+//! The lengths of routes by stops are costs of the instance. Each function is empty, and its contract is the law.
 
 ghost use Rattle.leg_duals.specs.Theorems.{HubStopsAreHubs, WaysCostRoutes, AloneCostsRoute, PriceIsLeastCost, FirstRouteIsLeast, FirstHubServesNoFlow};
 
-/// The stops that are hubs stand for just the hubs.
+/// The nodes of the stops that are hubs are exactly the hubs.
 pub fn hub_stops_are_hubs()
     ensures { HubStopsAreHubs }
 {}
 
-/// The flow times the length of a way by two stops is what the route by their nodes costs.
+/// The flow times the length of a route by two stops is the cost of the route through their nodes.
 pub fn ways_cost_routes()
     ensures { WaysCostRoutes }
 {}
 
-/// The flow times the length of the way by one stop alone is what the route by its node costs.
+/// The flow times the length of a route by one stop alone is the cost of the route through its node.
 pub fn alone_costs_route()
     ensures { AloneCostsRoute }
 {}
 
-/// Where no length is limited, the flow times the price is the least cost by the hubs.
+/// Without a length limit, the flow times the price is the least cost through the hubs.
 pub fn price_is_least_cost()
     ensures { PriceIsLeastCost }
 {}
 
-/// Where no length is limited and there is flow, the first of the shortest ways by hubs is the least route.
+/// Without a length limit, and with flow, the first of the shortest routes through hubs is the least route.
 pub fn first_route_is_least()
     ensures { FirstRouteIsLeast }
 {}
 
-/// Where there is none, the first hub twice is the least route.
+/// Without flow, the route through the first hub alone is the least route.
 pub fn first_hub_serves_no_flow()
     ensures { FirstHubServesNoFlow }
 {}

@@ -1,7 +1,7 @@
 //! Rows of numbers, lowered to lengths where these are near enough.
 //!
-//! Lengths are compared as signed numbers, which a processor's lanes do in one step, and nothing branches, so that
-//! several numbers are taken at a time.
+//! Lengths are compared as signed numbers, which vector instructions do in one step. Nothing branches, so several
+//! numbers are processed at a time.
 
 ghost use Rattle.std.specs.Prelude.{◌≡◌, ◌+◌, ◌*◌, ◌^◌, ◌<◌, ◌≤◌, length, slice_index, min, All};
 ghost use Rattle.hub_spec.specs.Limits.{most_distance};

@@ -1,4 +1,4 @@
-//! The prices: the least lengths by hubs.
+//! The prices: the least lengths through hubs.
 
 ghost use Rattle.std.specs.Prelude.{◌≡◌, ℕ, ◌+◌, ◌<◌, ◌≤◌, length, slice_index, All};
 ghost use Rattle.leg_duals.specs.Ways.{IsHub, IsWay, stop_count, no_way};

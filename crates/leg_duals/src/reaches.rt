@@ -1,4 +1,4 @@
-//! By which stop each stop is reached, so that ways to it that are no better are spared.
+//! The stops by which each stop is reached, so that dominated routes to it are skipped.
 
 ghost use Rattle.std.specs.Prelude.{◌≡◌, ℕ, ◌+◌, ◌*◌, ◌<◌, ◌≤◌, ◌⊎◌, [], length, slice_index, All, IfOk, IsTrue, vec_len, vec_capacity};
 ghost use Rattle.unit_duals.specs.Limits.{most_room};

@@ -1,4 +1,4 @@
-//! The least route of a commodity, of those that are allowed.
+//! The least allowed route of a commodity.
 
 ghost use Rattle.std.specs.Prelude.{◌≡◌, ◌+◌, ◌*◌, ◌<◌, ◌≤◌, ◌⊎◌, All, Some, IfSome, IsTrue};
 ghost use Rattle.hub_spec.specs.Problem.{flow, distance, route_cost, IsProblem};
@@ -8,7 +8,7 @@ ghost use Rattle.leg_duals.specs.Routes.{unit_length, hubs_of, IsShortest, IsLon
 
 use hub_model::Instance;
 
-/// The first and the last hub of a route, and its length by unit of flow, in 10^-6.
+/// The first and last hub of a route, and its length per unit of flow, in 10^-6.
 #[derive(Clone, Copy)]
 pub struct LimitedRoute {
     pub first: u32,
@@ -16,8 +16,8 @@ pub struct LimitedRoute {
     pub length: u64,
 }
 
-/// The least route of the commodity from `i` to `j`, which has flow, through these hubs: of those that are allowed and
-/// cost the same the one with the smallest first hub, and then the smallest last hub.
+/// The least allowed route through these hubs of the commodity from `i` to `j`, which has flow. Ties go to the smallest
+/// first hub, then to the smallest last hub.
 pub fn least_route(instance: &Instance, hubs: &[u32], i: u32, j: u32) -> LimitedRoute
     requires problem { IsProblem instance.now }
     requires set { IsHubSet instance.now hubs.now }

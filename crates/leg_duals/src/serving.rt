@@ -1,4 +1,4 @@
-//! The first commodity that hubs lack.
+//! The first commodity for which hubs are infeasible.
 
 ghost use Rattle.std.specs.Prelude.{◌≡◌, ◌+◌, ◌*◌, ◌<◌, ◌≤◌, Some, length};
 ghost use Rattle.hub_spec.specs.Limits.{most_distance, most_length};
@@ -12,8 +12,8 @@ use hub_model::Instance;
 /// The most hubs that there may be: as many as nodes.
 const MOST_HUBS: usize = 200;
 
-/// The first commodity that has no route through these hubs, if there is one: the node that it comes from and the one
-/// that it goes to. It takes no memory.
+/// Origin and destination of the first commodity that has no allowed route through these hubs, if there is one. It
+/// allocates nothing.
 pub fn lacking(instance: &Instance, hubs: &[u32]) -> Option<(u32, u32)>
     requires { IsCandidateSet instance.now hubs.now }
     ensures { result ≡ lacking instance.now hubs.now }

@@ -11,8 +11,7 @@ use std::alloc::{AllocError, Global};
 use std::marker::Model;
 use unit_duals::Legs;
 
-/// The legs of a hub set and an order, by unit of flow, with the room that was taken for them: so many destinations and
-/// so many stops there may be.
+/// The legs of a hub set and an order, per unit of flow. The workspace is allocated once.
 #[derive(Drop)]
 pub struct SetLegs {
     room: usize,
@@ -36,7 +35,7 @@ impl Model for SetLegs {
 }
 
 impl SetLegs {
-    /// Legs with room for this many destinations and this many stops, as yet of none.
+    /// An empty workspace for at most `room` destinations and at most `room` stops.
     pub fn new(alloc: Global, room: usize) -> Result<SetLegs, AllocError>
         requires { room ≤ most_room }
         ensures { IfOk result (λ s. s ≡ record { room = room; legs = no_legs }) }
@@ -51,7 +50,8 @@ impl SetLegs {
         })
     }
 
-    /// Makes these the legs of the hubs and the order, for `size` destinations from `start` on. It takes no memory.
+    /// Fills this with the legs of the hubs and the order, for `size` destinations from `start` on. It allocates
+    /// nothing.
     pub fn fill(&mut self, instance: &Instance, hubs: &[u32], order: &[u32], start: u32, size: u32)
         requires hubs { All (λ k. k < instance.now.size) hubs.now }
         requires order { All (λ k. k < instance.now.size) order.now }
@@ -72,7 +72,7 @@ impl SetLegs {
         set_last(instance, hubs, order, start, size, &mut self.last);
     }
 
-    /// The legs, as the work on them takes them.
+    /// The legs, in the form that `unit_duals` takes.
     pub fn legs(&self) -> Legs<'_>
         ensures { result ≡ self.now.legs }
     {

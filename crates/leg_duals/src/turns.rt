@@ -1,6 +1,7 @@
-//! The values of all places, each in its turn.
+//! The values of all positions, one position after another.
 //!
-//! Values stand row by row, a row for each place. The value of a place is what the price is above the least length by it.
+//! Values are row by row, one row for each position. The value of a position is the price less the least length through
+//! it, or 0 where that is negative.
 
 ghost use Rattle.std.specs.Prelude.{◌≡◌, ℕ, ◌+◌, ◌-◌, ◌*◌, ◌<◌, ◌≤◌, length, slice_index, All};
 ghost use Rattle.unit_duals.specs.Cells.{cell};

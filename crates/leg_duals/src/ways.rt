@@ -1,4 +1,4 @@
-//! The ways from one origin by way of stops.
+//! The routes from one origin by stops.
 
 ghost use Rattle.std.specs.Prelude.{◌≡◌, ℕ, ◌+◌, ◌*◌, ◌^◌, ◌<◌, ◌≤◌, length, slice_index, All};
 ghost use Rattle.hub_spec.specs.Limits.{most_nodes, most_distance, most_length};
@@ -16,8 +16,8 @@ use hub_model::{Instance, MOST_LENGTH};
 use std::marker::Model;
 use unit_duals::Legs;
 
-/// The ways from one origin to some destinations, by way of the stops of an order and a hub set. How long they are is
-/// told by the legs, and how far by the instance.
+/// The routes from one origin to some destinations, by the stops of an order and a hub set. The legs give their lengths
+/// per unit of flow, and the instance their distances.
 #[derive(Drop)]
 pub struct Ways<'a> {
     instance: &'a Instance,
@@ -42,8 +42,8 @@ impl<'a> Model for Ways<'a> {
 }
 
 impl<'a> Ways<'a> {
-    /// The ways from the node `origin` by way of the order and the hubs, to the destinations from `start` on that the legs
-    /// lead to; `first` are the legs from the origin to the stops.
+    /// The routes from the node `origin` by the order and the hubs, to the destinations of the legs, from `start` on.
+    /// `first` has the legs from the origin to the stops.
     pub fn new(
         instance: &'a Instance,
         hubs: &'a [u32],

@@ -10,7 +10,7 @@ use std::fs;
 use std::io::{ErrorKind, Read};
 use std::rt::Files;
 
-/// The files that the runtime opens, by their paths. It tells nothing of what they hold.
+/// The files that the runtime opens, by their paths. Contracts know nothing of what they hold.
 #[derive(Drop)]
 pub struct DiskShelf<'a, R: Files> {
     files: &'a R,
@@ -19,7 +19,7 @@ pub struct DiskShelf<'a, R: Files> {
 }
 
 impl<'a, R: Files> DiskShelf<'a, R> {
-    /// A shelf of which no file is begun and no call has failed.
+    /// A shelf before any file is begun, with no failed call.
     pub fn new(files: &'a R) -> Self
         ensures unbegun { result.begun ≡ None }
         ensures faults { result.faults ≡ 0 }

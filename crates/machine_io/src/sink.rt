@@ -8,7 +8,7 @@ ghost use Rattle.hub_io.specs.Outside.{AppendsFront};
 use hub_io::{Failed, Sink};
 use std::io::{ErrorKind, Write};
 
-/// A stream that bytes are written to. It tells what it took where the stream does, which those of the machine do not.
+/// A stream that bytes are written to. Contracts know what it took where the stream tells; those of the machine do not.
 #[derive(Drop)]
 pub struct StreamSink<W: Write + Drop> {
     stream: W,
@@ -16,7 +16,7 @@ pub struct StreamSink<W: Write + Drop> {
 }
 
 impl<W: Write + Drop> StreamSink<W> {
-    /// A sink over the stream, of which no put has failed.
+    /// A sink over the stream, with no failed put.
     pub fn new(stream: W) -> Self
         ensures taken { W.contents result.stream ≡ W.contents stream }
         ensures faults { result.faults ≡ 0 }
@@ -24,7 +24,7 @@ impl<W: Write + Drop> StreamSink<W> {
         StreamSink { stream, faults: 0 }
     }
 
-    /// The stream given back.
+    /// Gives the stream back.
     pub fn into_stream(self) -> W
         ensures { W.contents result ≡ W.contents self.stream }
     {

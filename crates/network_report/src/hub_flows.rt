@@ -1,4 +1,4 @@
-//! The flow that each hub takes up and gives out.
+//! The flow that each hub collects and delivers.
 
 ghost use Rattle.std.specs.Prelude.{◌≡◌, ℕ, slice_index};
 ghost use Rattle.hub_spec.specs.Problem.{IsProblem};

@@ -1,4 +1,4 @@
-//! What the routes of a plan cost, leg by leg.
+//! The cost of a plan's routes, leg by leg.
 
 ghost use Rattle.std.specs.Prelude.{◌≡◌, ◌<◌};
 ghost use Rattle.hub_spec.specs.Problem.{IsProblem};

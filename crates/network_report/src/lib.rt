@@ -19,9 +19,11 @@ use hub_io::{Buffer, Failed, Sink};
 use hub_model::Instance;
 use lines::{put_flows, put_hubs, put_legs, put_listed, put_status, put_totals};
 
-/// Puts the report of a network whose certificate holds for the instance: whether its plan is optimal, the hubs, what
-/// its parts cost, the bound, the number of hubs that the instance's file lists, and for each hub the flow that it
-/// collects and delivers. Costs have 12 decimals and flows 6. It takes no memory.
+/// Puts the report of a network whose certificate holds for the instance. It allocates nothing.
+///
+/// The report says whether the plan is optimal, the hubs, the cost part by part, the bound, and the number of hubs that
+/// the instance's file lists. For each hub it has the flow collected and the flow delivered. Costs have 12 decimals and
+/// flows 6.
 pub fn report<K: Sink>(
     instance: &Instance,
     certificate: &Certificate,
@@ -61,7 +63,7 @@ fn is_optimal(certificate: &Certificate) -> bool
     certificate.bound() == certificate.cost()
 }
 
-/// The costs in a report are together the cost that its certificate states.
+/// The costs in a report add up to the cost that its certificate states.
 pub fn parts_add_up()
     ensures { PartsAddUp }
 {}

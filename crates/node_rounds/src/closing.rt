@@ -1,4 +1,4 @@
-//! The end of a search: what is left of the tree is ended.
+//! The end of a search: the pending nodes become leaves.
 
 ghost use Rattle.std.specs.Prelude.{◌≡◌, ◌∷◌, [], None, IfOk, OnOk};
 ghost use Rattle.hub_spec.specs.Trees.{preorder};

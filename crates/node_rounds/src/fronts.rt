@@ -1,4 +1,4 @@
-//! What came of the nodes of a round so far.
+//! The results of a round so far.
 
 ghost use Rattle.std.specs.Prelude.{◌≡◌, None, [], ◌∷◌, OnOk};
 ghost use Rattle.hub_spec.specs.Trees.{branch_on};
@@ -20,9 +20,9 @@ use std::alloc::{AllocError, Global};
 /// A place of the tree: a finished line, or a node that is pending.
 #[derive(Drop)]
 pub(crate) enum Place {
-    /// A line.
+    /// A finished line.
     Line(TreeLine),
-    /// A node.
+    /// A pending node.
     Open(Pending),
 }
 

@@ -17,9 +17,9 @@ use std::alloc::AllocError;
 /// What stands at a place of the tree: a finished line, or the next of the nodes.
 #[derive(Drop)]
 pub(crate) enum Mark {
-    /// A line.
+    /// A finished line.
     Line(TreeLine),
-    /// The next node.
+    /// The next pending node.
     Node,
 }
 

@@ -1,4 +1,4 @@
-//! A node that is still to be handled, and what its turn comes to.
+//! A pending node, and the outcome of its evaluation.
 
 ghost use Rattle.std.specs.Prelude.{◌≡◌, IfOk};
 ghost use Rattle.hub_model.specs.Lines.{tree_line_of};
@@ -11,42 +11,42 @@ use hub_model::{Branch, HubSet, TreeLine};
 use leaf_bound::Side;
 use std::alloc::{AllocError, Global};
 
-/// A node that is still to be handled.
+/// A pending node.
 #[derive(Drop)]
 pub struct Pending {
     /// Its branch.
     pub branch: Branch,
     /// Its weights on the first cuts, in 10^-6.
     pub weights: Vec<u128>,
-    /// How often it waited for a set by its advice.
+    /// How often it waited for the cut of its set.
     pub waits: u32,
 }
 
-/// What a node's turn comes to.
+/// The outcome of a node's evaluation.
 #[derive(Drop)]
 pub enum Outcome {
-    /// This line ends the node.
+    /// The node ends with this line.
     Ends(TreeLine),
-    /// The node asks for the cut of a set over an order of the other candidates, with its weights.
+    /// The node requires the cut of a hub set over an order of the other candidates.
     Ask {
-        /// The set.
+        /// The hub set.
         set: HubSet,
         /// The order.
         order: Vec<u32>,
-        /// The weights.
+        /// The node's new weights, in 10^-6.
         weights: Vec<u128>,
         /// Whether this counts as a wait.
         waited: bool,
-        /// The sums of the cut, where it was worked out along with the turn.
+        /// The sums of the cut, where it was computed with the evaluation.
         sums: Option<CutSums>,
     },
-    /// The node is split.
+    /// The node branches.
     Split {
-        /// The weights.
+        /// The node's new weights, in 10^-6.
         weights: Vec<u128>,
-        /// The free nodes of which a side stays, ascending, each with that side.
+        /// The free candidates that are fixed, ascending, each with the side that stays.
         fixings: Vec<(u32, Side)>,
-        /// The advice, whose point names the node that is branched on.
+        /// The master's result, whose point chooses the node to branch on.
         advice: Advice,
     },
 }

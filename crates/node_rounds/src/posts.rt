@@ -1,4 +1,4 @@
-//! What searchers side by side tell each other.
+//! The messages between searchers.
 
 ghost use Rattle.std.specs.Prelude.{IfOk};
 ghost use Rattle.std.specs.Arc.{arc_value};

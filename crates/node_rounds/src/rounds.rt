@@ -1,4 +1,4 @@
-//! The turns of a round, by workers side by side.
+//! The node evaluations of a round, by workers side by side.
 
 ghost use Rattle.std.specs.Prelude.{◌≡◌, ◌<◌, ◌≤◌, ◌^◌, None, length, All, IfOk};
 ghost use Rattle.std.specs.List.{AllZip};
@@ -60,11 +60,11 @@ impl<'a> Job<Outcome> for Round<'a> {
     }
 }
 
-/// The turns of at most eight nodes in their order, by the pool and the cost of the incumbent, which is in 10^-12, worked
-/// out by so many workers, 1 to 64, each in a thread of its own where one can be made.
+/// Evaluates at most eight nodes, in their order, by the pool and the incumbent's cost, in 10^-12. There are 1 to 64
+/// workers, each in its own thread where one can be made.
 ///
-/// A worker passes the gate once for each node that it draws, before the node's turn. The turns are the same for every
-/// number of workers, every schedule and every gate.
+/// A worker passes the gate before each node that it draws. The outcomes depend neither on the number of workers nor on
+/// their schedule.
 pub fn turns<R: Threads + Sync, G: Gate>(
     rt: &R,
     alloc: Global,

@@ -1,9 +1,9 @@
 //! Searchers side by side.
 //!
-//! Each carries out the whole search, and they come to the same. Turns take nearly all of its time, so each turn is worked
-//! out by one searcher alone, which tells it to the others (`Partner` of `desks`). Turns have numbers, counted from the first of
-//! the search on; a searcher draws the next one as it is done with another, within a round in the order of `draws`. Threads are
-//! made once, and none waits asleep.
+//! Each runs the whole search, and all find the same. Node evaluations take nearly all of its time. So one searcher
+//! alone computes each of them and sends it to the others (`Partner` of `desks`). Evaluations are numbered from the
+//! first of the search on. A searcher draws the next one when it is done with one, within a round in the order of
+//! `draws`. Threads are made once, and none sleeps.
 
 ghost use Rattle.std.specs.Prelude.{◌≡◌, ◌+◌, ◌<◌, ◌≤◌, None, length, All, IfOk, IfSome, OnOk};
 ghost use Rattle.std.specs.List.{AllZip, HoldsAt};

@@ -42,18 +42,19 @@ const LARGE: u32 = 50;
 // How large a block is asked for before the first round, in bytes.
 const KEPT_BLOCK: usize = 16 << 20;
 
-/// What the search by rounds finds, where any number of hubs will do: a plan with its cost, a bound that no plan costs
-/// less than, and the cuts and the tree that show it. `nodes` is the most nodes of the tree, the root among them; with
-/// `None` they are not limited. All candidates together are feasible for each commodity. The turns of each round are
-/// worked out by so many workers, 1 to 64, each in a thread of its own where one can be made, and a worker passes the gate
-/// once for each node that it draws, before the node's turn.
+/// Branch and bound by rounds, for any number of hubs. The finding has a plan with its cost, a lower bound, and the
+/// cuts and the tree that prove it.
 ///
-/// The separator works out cuts of minimal duals. The plan costs at most what all candidates do. Only where two nodes more are not allowed the search stops. Else cost and
-/// bound are equal and the plan is optimal. The finding is the same whatever the separator, the number of workers, their
-/// schedule and the gate are.
+/// `nodes` is the most nodes of the tree, the root included, or `None` for no limit. All candidates together must be
+/// feasible for every commodity. The separator computes cuts of minimal duals. The plan costs at most as much as all
+/// candidates as hubs. The search stops early only where two more nodes pass the limit. Otherwise cost and bound are
+/// equal and the plan is optimal.
 ///
-/// The answer is `AllocError` where memory runs out, and for a search that would have more cuts or tree lines than a
-/// certificate's text can have, 67,108,864 and 268,435,456.
+/// There are 1 to 64 workers, each in its own thread where one can be made. A worker passes the gate before each node
+/// that it draws. The finding depends neither on the separator, the number of workers, their schedule, nor the gate.
+///
+/// `AllocError` means that memory ran out, or that a limit of certificates was reached: 67,108,864 cuts or 268,435,456
+/// tree lines.
 pub fn search_rounds<R: Threads + Sync, S: Separator, G: Gate>(
     rt: &R,
     alloc: Global,

@@ -1,4 +1,4 @@
-//! What is taken of a split.
+//! How the outcome of a node that branches is applied.
 
 ghost use Rattle.std.specs.Prelude.{◌≡◌, ◌≤◌, None, length, OnOk};
 ghost use Rattle.frac_master.specs.Advice.{advice_of_code};

@@ -1,4 +1,4 @@
-//! What is taken of an outcome.
+//! How an outcome is applied.
 
 ghost use Rattle.std.specs.Prelude.{◌≡◌, None, IfSome, OnOk};
 ghost use Rattle.hub_spec.specs.Plans.{IsHubSet};

@@ -1,4 +1,4 @@
-//! Who works out the turns of a round.
+//! Who evaluates the nodes of a round.
 
 ghost use Rattle.std.specs.Prelude.{◌≡◌, ◌≤◌, None, length, IfOk, OnOk};
 ghost use Rattle.std.specs.List.{AllZip};
@@ -41,9 +41,9 @@ pub(crate) struct Workers<'a, R, G> {
 /// Who works out the turns of each round of a search.
 #[derive(Drop)]
 pub(crate) enum Turner<'s, 'a> {
-    /// All workers, who meet anew for each round.
+    /// A worker pool, which meets for each round.
     ByCrew,
-    /// Searchers side by side, of whom this is one.
+    /// Searchers side by side, of which this is one.
     BySearcher(Searcher<'s, 'a>),
 }
 

@@ -24,9 +24,9 @@ use std::alloc::{AllocError, Global};
 // How often a node may ask for a set by its advice.
 const MOST_WAITS: u32 = 2;
 
-/// The evaluation of a node, by the pool and the cost of the incumbent, which is in 10^-12. Any number of hubs will do.
+/// Evaluates a node, by the pool and the incumbent's cost, in 10^-12, for any number of hubs.
 ///
-/// The answer is `AllocError` where memory runs out, and where the master is beyond what its rows can hold.
+/// `AllocError` means that memory ran out, or that the master is larger than its tableau can hold.
 pub fn turn(
     alloc: Global,
     instance: &Instance,

@@ -1,4 +1,4 @@
-//! The bound of a branch where exactly p hubs are wanted, and whether it closes a target.
+//! The bound of a branch for exactly p hubs, and whether it fathoms at a cutoff.
 
 ghost use Rattle.std.specs.Prelude.{◌≡◌, ◌^◌, ◌↔◌, ◌≤◌, length, IsTrue, Some};
 ghost use Rattle.hub_spec.specs.Limits.{most_nodes};
@@ -11,8 +11,8 @@ use crate::rising::{ROOM, rising_gains};
 use hub_model::{Branch, signed};
 use leaf_bound::{Weighting, sum_of_gains, threshold, write_gains_and_base};
 
-/// The bound of the branch with `p` wanted hubs under these weights, in 10^-12, times the denominator. The branch has
-/// room for the hubs.
+/// The bound of the branch for exactly `p` hubs under these weights, in 10^-12, times the denominator. The branch has
+/// room for `p` hubs.
 pub fn bound_p(weighting: &Weighting, branch: &Branch, p: u32) -> i128
     requires numbers { AreWeightingNumbers weighting.now }
     requires nodes { IsBranchWithin weighting.now branch.now }
@@ -55,8 +55,8 @@ pub(crate) fn bound_by_rising(
     decided + missing
 }
 
-/// Tells whether the bound of the branch with `p` wanted hubs under these weights closes the target, which is in
-/// 10^-12: no plan of the branch with `p` hubs then costs less than the target.
+/// Tells whether the branch is fathomed by its bound for exactly `p` hubs at the cutoff `target`, in 10^-12. Then no
+/// plan of the branch with `p` hubs costs less than `target`.
 pub fn closes_p(weighting: &Weighting, branch: &Branch, target: u128, p: u32) -> bool
     requires numbers { AreWeightingNumbers weighting.now }
     requires nodes { IsBranchWithin weighting.now branch.now }

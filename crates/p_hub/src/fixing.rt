@@ -1,4 +1,4 @@
-//! The free candidates of which a side stays.
+//! Variable fixing for exactly p hubs.
 
 ghost use Rattle.std.specs.Prelude.{◌≡◌, ◌^◌, ◌≤◌, false, IfOk};
 ghost use Rattle.leaf_bound.specs.Numbers.{AreWeightingNumbers, IsBranchWithin, weighting_of};
@@ -11,10 +11,11 @@ use hub_model::Branch;
 use leaf_bound::{Side, Weighting, threshold, write_gains_and_base};
 use std::alloc::{AllocError, Global};
 
-/// The free candidates of the branch, ascending, of which a side stays with `p` wanted hubs under these weights, each
-/// with that side.
+/// Variable fixing for exactly `p` hubs: the free candidates of the branch that these weights decide, ascending, each
+/// with the side that stays.
 ///
-/// The target is in 10^-12. The branch itself does not close it, and each of its children has room for the hubs.
+/// `target` is the cutoff, in 10^-12. The branch itself is not fathomed at it, and each of its children has room for
+/// `p` hubs.
 pub fn fix_p(
     alloc: Global,
     weighting: &Weighting,

@@ -1,4 +1,4 @@
-//! The side of a candidate that stays.
+//! The value to which a candidate is fixed, for exactly p hubs.
 
 ghost use Rattle.std.specs.Prelude.{◌≡◌};
 ghost use Rattle.leaf_bound.specs.Weighing.{most_gain, most_bound, IsWithin};

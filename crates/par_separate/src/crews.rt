@@ -1,4 +1,4 @@
-//! A separator that is several workers.
+//! A separator of several workers.
 
 ghost use Rattle.std.specs.Prelude.{◌≡◌, IfOk};
 ghost use Rattle.hub_spec.specs.Plans.{IsHubSet};
@@ -14,12 +14,11 @@ use std::alloc::{AllocError, Global};
 
 /// Separates by a closure, which may start threads.
 ///
-/// A search knows no threads, and what starts them is made where the program's handle is: there the closure calls
-/// `separate_sums` by as many workers as `workers_for` says. It may be asked where the closure can be called at each set and
-/// order, and what it answers has the sums of their cut.
+/// A search knows no threads. Where the program's handle is, the closure calls `separate_sums` with as many workers as
+/// `workers_for` says. The closure must accept every set and order, and return the sums of their cut.
 #[derive(Drop)]
 pub struct Crew<F: Drop> {
-    /// Separates the hub set over the order, as a separator does.
+    /// Separates the hub set over the order.
     pub cut: F,
 }
 

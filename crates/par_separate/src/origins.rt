@@ -1,4 +1,4 @@
-//! What one origin adds to the sums of a cut.
+//! The contribution of one origin to the sums of a cut.
 
 ghost use Rattle.std.specs.Prelude.{◌<◌, ◌≤◌};
 ghost use Rattle.par_separate.specs.Origins.{IsWhole, AreSumsFrom};
@@ -7,7 +7,7 @@ use claim_board::Job;
 use pareto_cuts::{OriginScratch, Separation};
 use std::alloc::{AllocError, Global};
 
-/// What the duals of all commodities from one origin add up to, in 10^-12.
+/// The sums of the duals of all commodities from one origin, in 10^-12.
 #[derive(Drop)]
 pub struct OriginSums {
     /// The sum of their prices.

@@ -21,11 +21,11 @@ use pareto_cuts::{Separation, SetTables};
 use std::alloc::{AllocError, Global};
 use std::thread::Threads;
 
-/// The cut of the hub set over the order, with its duals, in 10^-12, worked out by so many workers, 1 to 64, each in a
-/// thread of its own where one can be made.
+/// The Benders cut of the hub set over the order, with its duals, in 10^-12, by 1 to 64 workers. Each has its own
+/// thread where one can be made. `workers_for` says how many are worth their start.
 ///
-/// A worker passes the gate after each origin that it draws, before the origin's duals. The cut is the same for every
-/// number of workers, every schedule and every gate. For how many workers are worth their start, see `workers_for`.
+/// A worker passes the gate before each origin that it draws. The cut depends neither on the number of workers nor on
+/// their schedule.
 pub fn separate<R: Threads + Sync, G: Gate>(
     rt: &R,
     alloc: Global,
@@ -70,11 +70,11 @@ fn set_duals<R: Threads + Sync, G: Gate>(
     joined(alloc, &separation, rows)
 }
 
-/// The sums of the cut of the hub set over the order, in 10^-12, worked out by so many workers, 1 to 64, each in a
-/// thread of its own where one can be made.
+/// The sums of the Benders cut of the hub set over the order, in 10^-12, by 1 to 64 workers. Each has its own thread
+/// where one can be made. `workers_for` says how many are worth their start.
 ///
-/// A worker passes the gate after each origin that it draws, before the origin's duals. The sums are the same for every
-/// number of workers, every schedule and every gate. For how many workers are worth their start, see `workers_for`.
+/// A worker passes the gate before each origin that it draws. The sums depend neither on the number of workers nor on
+/// their schedule.
 pub fn separate_sums<R: Threads + Sync, G: Gate>(
     rt: &R,
     alloc: Global,

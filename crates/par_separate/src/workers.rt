@@ -17,8 +17,8 @@ use std::alloc::{AllocError, Global};
 // The least number of nodes at which workers are worth their start.
 const LEAST_SHARED: u32 = 50;
 
-/// How many workers a separation of so many nodes is to have, of so many at most: all of them from 50 nodes on, and one
-/// below. On a busy machine a thread's start and end can take longer than all work of a smaller instance.
+/// The number of workers for a separation with `size` nodes, of at most `workers`: all of them from 50 nodes on, and
+/// one below. On a busy machine, starting threads can take longer than a smaller separation.
 pub fn workers_for(size: u32, workers: u32) -> u32
     requires { 1 ≤ workers }
     ensures is { result ≡ if nat_lt size least_shared then 1 else workers }
@@ -28,11 +28,12 @@ pub fn workers_for(size: u32, workers: u32) -> u32
     if size < LEAST_SHARED { 1 } else { workers }
 }
 
-/// The work of one worker: draws origins until none is left, and makes the duals of each. It passes the gate after each
-/// draw that gave it an origin, before the origin's duals.
+/// The work of one worker: draws origins until none is left, and computes the duals of each. It passes the gate before
+/// each origin that it drew.
 ///
-/// The separation is to all nodes, and the board's blocks are its origins. The crop has the seat, ended, and the duals of
-/// the origins in the seat's list, in the list's order: for each origin those to each node in order.
+/// The separation has all nodes as destinations, and the blocks of the board are its origins. The result has the ended
+/// seat, and the duals of the origins in the seat's list, in its order. The duals of an origin are in the order of
+/// destinations.
 pub fn work<G: Gate>(
     alloc: Global,
     board: &Board,
@@ -56,9 +57,9 @@ pub fn work<G: Gate>(
     )
 }
 
-/// The same for the sums alone: a worker keeps what an origin's duals add up to, and none of them.
+/// As `work`, but a worker stores only the sums of an origin's duals.
 ///
-/// The crop has the seat, ended, and the sums of the origins in the seat's list, in the list's order.
+/// The result has the ended seat, and the sums of the origins in the seat's list, in its order.
 pub fn work_on_sums<G: Gate>(
     alloc: Global,
     board: &Board,

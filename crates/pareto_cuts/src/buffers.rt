@@ -1,4 +1,4 @@
-//! A dual as a certificate's line has it, lent from room that is used again.
+//! A dual as a line of a certificate lists it, in a buffer that is used again.
 
 ghost use Rattle.std.specs.Prelude.{◌≡◌, ◌+◌, ◌*◌, ◌<◌, ◌≤◌, [], pos, length, slice_index, All, IfOk, vec_len, vec_capacity};
 ghost use Rattle.hub_spec.specs.Limits.{most_cost};
@@ -12,7 +12,7 @@ use hub_model::{list_values, signed};
 use std::alloc::{AllocError, Global};
 use std::marker::Model;
 
-/// The dual that was made last, in room for so many nodes.
+/// A buffer for one dual: the last that was made.
 #[derive(Drop)]
 pub struct DualBuffer {
     room: usize,
@@ -32,7 +32,7 @@ impl Model for DualBuffer {
 }
 
 impl DualBuffer {
-    /// A buffer with room for this many nodes, whose dual is as yet 0 without values.
+    /// A buffer for at most `room` nodes, with the zero dual.
     pub fn new(alloc: Global, room: usize) -> Result<DualBuffer, AllocError>
         ensures { IfOk result (λ b. b ≡ record { room = room; dual = record { a = 0; u = [] } }) }
     {
@@ -44,8 +44,8 @@ impl DualBuffer {
         })
     }
 
-    /// Makes the dual of the commodity from `i` to the separation's destination number `j` of the duals from `i` that
-    /// were worked out. It takes no memory.
+    /// Makes the dual of the commodity from `i` to destination number `j` of the separation. `duals` has the duals
+    /// computed for `i`. It allocates nothing.
     pub fn make(&mut self, separation: &Separation, duals: &OriginScratch, i: u32, j: usize)
         requires origin { i < separation.now.problem.size }
         requires destination { j < separation.now.legs.size }
@@ -65,7 +65,7 @@ impl DualBuffer {
         );
     }
 
-    /// The price and the nodes with their values, ascending, each value above 0, in 10^-12.
+    /// The price, and the nodes with their values, ascending, each value above 0. All are in 10^-12.
     pub fn dual(&self) -> (i128, &[(u32, i128)])
         ensures price { result.0 ≡ pos self.now.dual.a }
         ensures values { result.1.now ≡ signed_values self.now.dual.u }

@@ -1,4 +1,4 @@
-//! Flows, and lengths weighted by them.
+//! Flows, and lengths multiplied by them.
 
 ghost use Rattle.std.specs.Prelude.{◌≡◌, ◌≢◌, ℕ, ◌+◌, ◌*◌, ◌^◌, ◌<◌, ◌≤◌, length, slice_index, All};
 ghost use Rattle.hub_spec.specs.Limits.{most_flow};

@@ -11,8 +11,7 @@ use std::alloc::{AllocError, Global};
 use std::marker::Model;
 use unit_duals::UnitDuals;
 
-/// What the duals of one origin are worked out in, by unit of flow, with the room that was taken for it: so many
-/// destinations, and so many hubs and candidates of the order, there may be. A worker has its own.
+/// A workspace for the duals of one origin, per unit of flow. It is allocated once, and each worker has its own.
 #[derive(Drop)]
 pub struct OriginScratch {
     first: FirstLegs,
@@ -34,7 +33,7 @@ impl Model for OriginScratch {
 }
 
 impl OriginScratch {
-    /// Scratch with this room, as yet of no origin.
+    /// An empty workspace for at most `room` destinations and at most `room` hubs and candidates of the order.
     pub fn new(alloc: Global, room: usize) -> Result<OriginScratch, AllocError>
         requires { room ≤ most_room }
         ensures { IfOk result (λ o. o ≡ record { room = room; prices = []; values = [] }) }
@@ -47,7 +46,7 @@ impl OriginScratch {
         })
     }
 
-    /// Works out the duals of all commodities from `i` to the separation's destinations. It takes no memory.
+    /// Computes the duals of all commodities from `i` to the separation's destinations. It allocates nothing.
     pub fn work_out(&mut self, separation: &Separation, i: u32)
         requires origin { i < separation.now.problem.size }
         requires room { separation.now.problem.size ≤ self.old.room }

@@ -1,4 +1,4 @@
-//! All that duals are worked out in, for a single thread.
+//! The whole workspace for duals, for a single thread.
 
 ghost use Rattle.std.specs.Prelude.{◌≡◌, ℕ, ◌+◌, ◌^◌, ◌<◌, ◌≤◌, [], pos, length, slice_index, All, IfOk};
 ghost use Rattle.hub_spec.specs.Problem.{IsProblem};
@@ -14,8 +14,9 @@ use hub_model::{HubSet, Instance};
 use std::alloc::{AllocError, Global};
 use std::marker::Model;
 
-/// Room for the duals of an instance with so many nodes, or fewer: for one commodity (`strong_dual_in`), or for all of
-/// a hub set and an order, one origin after another (`prepare`, `work_out`, and then `make_dual`, `total`, `add_loads`).
+/// The workspace for the duals of an instance with at most so many nodes. `strong_dual_in` computes one commodity. For
+/// a hub set and an order, `prepare` comes first, then `work_out` for each origin, and then `make_dual`, `total` and
+/// `add_loads`.
 #[derive(Drop)]
 pub struct Scratch {
     tables: SetTables,
@@ -41,7 +42,7 @@ impl Model for Scratch {
 }
 
 impl Scratch {
-    /// A scratch with room for the instance's nodes. The dual that was made last is as yet 0 without values.
+    /// A workspace for the instance's number of nodes, with the zero dual.
     pub fn new(alloc: Global, instance: &Instance) -> Result<Scratch, AllocError>
         ensures room { IfOk result (λ s. s.room ≡ instance.now.size) }
         ensures dual { IfOk result (λ s. s.dual ≡ record { a = 0; u = [] }) }
@@ -54,7 +55,7 @@ impl Scratch {
         })
     }
 
-    /// Makes this ready for the duals of the hub set over the order. It takes no memory.
+    /// Prepares the tables for the duals of the hub set over the order. It allocates nothing.
     pub fn prepare(&mut self, instance: &Instance, set: &HubSet, order: &[u32])
         requires room { instance.now.size ≤ self.old.room }
         requires set { IsHubSet instance.now set.now }
@@ -65,7 +66,7 @@ impl Scratch {
         self.tables.fill(instance, set, order, None);
     }
 
-    /// Works out the duals of all commodities from `i`. It takes no memory.
+    /// Computes the duals of all commodities from `i`. It allocates nothing.
     pub fn work_out(&mut self, instance: &Instance, set: &HubSet, order: &[u32], i: u32)
         requires room { instance.now.size ≤ self.old.room }
         requires set { IsHubSet instance.now set.now }
@@ -79,7 +80,7 @@ impl Scratch {
         self.origin.work_out(&separation, i);
     }
 
-    /// Makes the dual of the commodity from `i` to `j`, where those from `i` were worked out. It takes no memory.
+    /// Makes the dual of the commodity from `i` to `j`, after `work_out` of `i`. It allocates nothing.
     pub fn make_dual(&mut self, instance: &Instance, set: &HubSet, order: &[u32], i: u32, j: u32)
         requires room { instance.now.size ≤ self.old.room }
         requires set { IsHubSet instance.now set.now }
@@ -119,7 +120,8 @@ impl Scratch {
         self.dual.make(&separation, &self.origin, i, 0);
     }
 
-    /// The price of the dual that was made last, and its nodes with their values, ascending, each value above 0.
+    /// The dual that was made last: its price, and its nodes with their values, ascending, each above 0. All are in
+    /// 10^-12.
     pub fn dual(&self) -> (i128, &[(u32, i128)])
         ensures price { result.0 ≡ pos self.now.dual.a }
         ensures values { result.1.now ≡ signed_values self.now.dual.u }
@@ -128,7 +130,7 @@ impl Scratch {
         self.dual.dual()
     }
 
-    /// The sum of the prices of the duals from `i` that were worked out, in 10^-12.
+    /// The sum of the prices of the duals computed for `i`, in 10^-12.
     pub fn total(&self, instance: &Instance, set: &HubSet, order: &[u32], i: u32) -> u128
         requires set { IsHubSet instance.now set.now }
         requires order { IsOrder instance.now set.now order.now }
@@ -140,7 +142,7 @@ impl Scratch {
         self.origin.total(&separation, i)
     }
 
-    /// Adds the values of the duals from `i` that were worked out to the loads, one for each node, in 10^-12.
+    /// Adds the values of the duals computed for `i` to the loads, one load for each node, in 10^-12.
     pub fn add_loads(
         &self,
         instance: &Instance,

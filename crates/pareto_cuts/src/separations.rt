@@ -1,4 +1,4 @@
-//! All that the duals of an origin hang on.
+//! Everything that the duals of an origin depend on.
 
 ghost use Rattle.std.specs.Prelude.{◌≡◌, ◌+◌, ◌≤◌, length, None, IfSome};
 ghost use Rattle.hub_spec.specs.Problem.{IsProblem};
@@ -12,8 +12,8 @@ use hub_model::Instance;
 use std::marker::Model;
 use unit_duals::Tables;
 
-/// A hub set and an order of the candidates outside it, with their tables, and the destinations: so many nodes from
-/// `start` on.
+/// A hub set and an order of the other candidates, with their tables, and the destinations: a run of nodes from `start`
+/// on.
 #[derive(Drop)]
 pub struct Separation<'a> {
     instance: &'a Instance,
@@ -36,7 +36,7 @@ impl<'a> Model for Separation<'a> {
 }
 
 impl<'a> Separation<'a> {
-    /// The separation of these hubs over this order, of which the tables are.
+    /// The separation of these hubs over this order, with tables that were filled for them.
     pub fn new(
         instance: &'a Instance,
         hubs: &'a [u32],
@@ -83,7 +83,7 @@ impl<'a> Separation<'a> {
         self.hubs
     }
 
-    /// The candidates outside them, in their order.
+    /// The other candidates, in their order.
     pub fn order(&self) -> &[u32]
         ensures value { result.now ≡ self.now.order }
         ensures separation { IsSeparation self.now }

@@ -1,4 +1,4 @@
-//! The cut of a hub set, with its duals or by its sums alone.
+//! The Benders cut of a hub set, with its duals or by its sums alone.
 
 ghost use Rattle.std.specs.Prelude.{◌≡◌, ℕ, ◌+◌, ◌<◌, ◌≤◌, length, slice_index, All, Contains, IfOk};
 ghost use Rattle.hub_spec.specs.Problem.{opening_cost};
@@ -11,9 +11,9 @@ use crate::strong_duals::lent_dual;
 use hub_model::{Cut, Dual, HubSet, Instance};
 use std::alloc::{AllocError, Global};
 
-/// The cut of the hub set over this order of the candidates outside it.
+/// The Benders cut of the hub set over this order of the other candidates.
 ///
-/// It is tight: its total and the fixed costs of the hubs are together what the hub set costs.
+/// It is tight: its total plus the fixed costs of the hubs is the cost of the hub set.
 pub fn cut_of(
     alloc: Global,
     instance: &Instance,
@@ -62,8 +62,8 @@ fn set_duals(
     Ok(rows)
 }
 
-/// The total of the cut of the hub set over the order; its loads are put in the place of the numbers that are given, one
-/// for each node. Costs are in 10^-12. It takes no memory.
+/// The total of the cut of the hub set over the order, in 10^-12. It overwrites `loads` with the cut's loads, one for
+/// each node. It allocates nothing.
 pub fn cut_sums(
     scratch: &mut Scratch,
     instance: &Instance,

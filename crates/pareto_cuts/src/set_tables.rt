@@ -1,4 +1,4 @@
-//! What is worked out once for a hub set and an order: the legs, and where no length is limited what hangs on them.
+//! What a hub set and an order need once: the legs, and, without a length limit, the tables made from them.
 
 ghost use Rattle.std.specs.Prelude.{◌≡◌, ◌+◌, ◌<◌, ◌≤◌, IfOk, IfSome, IsNone};
 ghost use Rattle.hub_spec.specs.Problem.{IsProblem};
@@ -14,10 +14,9 @@ use std::alloc::{AllocError, Global};
 use std::marker::Model;
 use unit_duals::{Legs, Tables};
 
-/// The tables of a hub set and an order, with the room that was taken for them: so many destinations, and so many hubs
-/// and candidates of the order, there may be.
+/// The tables of a hub set and an order. The workspace is allocated once.
 ///
-/// They are only read while the duals of origins are worked out, so several workers may share them.
+/// They are only read while the duals of origins are computed, so several workers may share them.
 #[derive(Drop)]
 pub struct SetTables {
     legs: SetLegs,
@@ -38,7 +37,7 @@ impl Model for SetTables {
 }
 
 impl SetTables {
-    /// Tables with this room, as yet of no set.
+    /// An empty workspace for at most `room` destinations and at most `room` hubs and candidates of the order.
     pub fn new(alloc: Global, room: usize) -> Result<SetTables, AllocError>
         requires { room ≤ most_room }
         ensures { IfOk result (λ t. t ≡ record { room = room; legs = no_legs }) }
@@ -50,7 +49,7 @@ impl SetTables {
         })
     }
 
-    /// Makes these the tables of the hub set and the order: for one destination, or for all nodes. It takes no memory.
+    /// Fills the tables for the hub set and the order, with one destination or all nodes. It allocates nothing.
     pub fn fill(
         &mut self,
         instance: &Instance,

@@ -9,8 +9,7 @@ use crate::Scratch;
 use hub_model::{Dual, HubSet, Instance};
 use std::alloc::{AllocError, Global};
 
-/// Makes the minimal dual of the commodity from `i` to `j` in the scratch, which has room for the instance's nodes.
-/// It takes no memory.
+/// Makes the minimal dual of the commodity from `i` to `j` in the workspace. It allocates nothing.
 pub fn strong_dual_in(
     scratch: &mut Scratch,
     instance: &Instance,
@@ -32,7 +31,7 @@ pub fn strong_dual_in(
     scratch.make_single(instance, set, order, i, j);
 }
 
-/// The minimal dual of the commodity from `i` to `j`.
+/// The minimal dual of the commodity from `i` to `j`, strengthened in this order. It fails where memory runs out.
 pub fn strong_dual(
     alloc: Global,
     instance: &Instance,

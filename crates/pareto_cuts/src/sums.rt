@@ -8,7 +8,7 @@ use crate::flows::{add_rows, flows_from, weighted};
 use crate::{OriginScratch, Separation};
 
 impl OriginScratch {
-    /// The sum of the prices of the duals from `i` that were worked out, in 10^-12.
+    /// The sum of the prices of the duals computed for `i`, in 10^-12.
     pub fn total(&self, separation: &Separation, i: u32) -> u128
         requires origin { i < separation.now.problem.size }
         requires duals { AreDualsFrom separation.now i self.now.prices self.now.values }
@@ -17,7 +17,7 @@ impl OriginScratch {
         total_of(separation, i, self.prices(), self.values())
     }
 
-    /// Adds the values of the duals from `i` that were worked out to the loads, one for each node, in 10^-12.
+    /// Adds the values of the duals computed for `i` to the loads, one load for each node, in 10^-12.
     pub fn add_loads(&self, separation: &Separation, i: u32, loads: &mut [u128])
         requires origin { i < separation.now.problem.size }
         requires duals { AreDualsFrom separation.now i self.now.prices self.now.values }

@@ -1,4 +1,4 @@
-//! Which column enters the basis, and which row leaves it.
+//! The entering column and the leaving row.
 
 ghost use Rattle.std.specs.Prelude.{◌≡◌, ◌+◌, ◌-◌, ◌<◌, ◌≤◌, ◌<ℤ◌, pos, length, slice_index, unsigned_abs, IfSome};
 ghost use Rattle.frac_rows.specs.Rows.{widest, number, is_sooner, leaves_before, sooner, leaving, AreNarrow};

@@ -1,4 +1,4 @@
-//! What a pivot makes of one row, divided by its greatest common divisor.
+//! One row after a pivot, divided by its greatest common divisor.
 
 ghost use Rattle.std.specs.Prelude.{◌≡◌, ◌≤◌, ◌^◌, true, length, unsigned_abs, OnOk, OnErr};
 ghost use Rattle.frac_rows.specs.Divisors.{gcd, divisor_of, reduced};

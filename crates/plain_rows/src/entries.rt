@@ -1,4 +1,4 @@
-//! The numbers of a whole row, by what is kept of it.
+//! The numbers of a whole row, from its stored part.
 
 ghost use Rattle.std.specs.Prelude.{◌≡◌, ◌+◌, ◌≤◌, length, slice_index, All, pos};
 ghost use Rattle.frac_rows.specs.Rows.{number};

@@ -1,4 +1,4 @@
-//! A linear program as it is written, laid out for a table.
+//! A linear program in its usual form, laid out as a tableau.
 
 ghost use Rattle.std.specs.Prelude.{◌≡◌, ◌+◌, ◌*◌, ◌<◌, ◌≤◌, length, map, unsigned_abs, All, IfOk};
 ghost use Rattle.frac_rows.specs.Rows.{widest, number, right_side, AreNarrow};

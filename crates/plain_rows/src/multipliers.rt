@@ -1,4 +1,4 @@
-//! What a pivot makes of two numbers of a column.
+//! The elimination of one number by a pivot.
 
 ghost use Rattle.std.specs.Prelude.{◌≡◌, ◌<◌, ◌≤◌, ◌^◌, ◌-ℤ◌, ◌*ℤ◌, true, unsigned_abs, IfOk, OnErr};
 ghost use Rattle.frac_rows.specs.Rows.{widest};

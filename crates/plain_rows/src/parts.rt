@@ -1,4 +1,4 @@
-//! Rows that stand one after the other, all of one length.
+//! Rows of equal length, one after another.
 
 ghost use Rattle.std.specs.Prelude.{◌≡◌, ◌+◌, ◌*◌, ◌≤◌, length};
 ghost use Rattle.frac_rows.specs.Stored.{piece};

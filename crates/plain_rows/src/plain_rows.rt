@@ -1,4 +1,4 @@
-//! The rows of a small linear program.
+//! The tableau of a small linear program, with its simplex runs.
 
 ghost use Rattle.std.specs.Prelude.{◌≡◌, ◌+◌, ◌*◌, ◌^◌, ◌<◌, ◌≤◌, length, map, slice_index, unsigned_abs, IfOk, OnSome, IfSome, IsNone};
 ghost use Rattle.frac_rows.specs.Rows.{widest, number, row_at, objective, entering, IsTable, AreNarrow};
@@ -16,8 +16,8 @@ use frac_rows::{Ended, MOST_PIVOTS};
 use std::alloc::{AllocError, Global};
 use std::marker::Model;
 
-/// A table of whole numbers of at most 2^62 in size. Of each row the numbers of the columns outside the basis are kept, its right
-/// side, and its number in its own basic column.
+/// A tableau of whole numbers of at most 2^62 in absolute value. Of each row it stores the numbers of the nonbasic
+/// columns, the right side, and the number in the row's own basic column.
 #[derive(Drop)]
 pub struct PlainRows {
     // The rows of the constraints and last the objective row, one after another.
@@ -43,9 +43,9 @@ impl Model for PlainRows {
 }
 
 impl PlainRows {
-    /// The table of a linear program before the first pivot. Each constraint has the numbers of the variables and then its right
-    /// side, and the objective, which is to be as great as can be, those of the variables alone. A slack is added for each
-    /// constraint, in order, and the slacks are basic.
+    /// The tableau of a linear program before the first pivot. Each constraint has the numbers of the variables and
+    /// then its right side. The objective, which is maximised, has those of the variables alone. Each constraint gets a
+    /// slack, in order, and the slacks are basic.
     pub fn new(
         alloc: Global,
         constraints: &[Vec<i128>],
@@ -59,7 +59,8 @@ impl PlainRows {
         PlainRows::start(alloc, &given, objective.len(), &rights)
     }
 
-    /// The same, where the numbers of the variables stand row by row: a row for each constraint, and last what v loses by each.
+    /// The tableau before the first pivot, from numbers row by row: a row for each constraint, and last what v loses by
+    /// each variable.
     pub fn start(
         alloc: Global,
         given: &[i64],
@@ -86,7 +87,7 @@ impl PlainRows {
         })
     }
 
-    /// How many constraint rows there are.
+    /// The number of constraint rows.
     pub fn constraints(&self) -> usize
         ensures value { result ≡ length self.now.basis }
         ensures table { IsTable self.now }
@@ -94,7 +95,7 @@ impl PlainRows {
         self.basis.len()
     }
 
-    /// How many columns there are, those of v and of the right side among them.
+    /// The number of columns, including those of v and of the right side.
     pub fn columns(&self) -> usize
         ensures value { result ≡ length (objective self.now) }
         ensures table { IsTable self.now }
@@ -102,7 +103,7 @@ impl PlainRows {
         self.outside.len() + self.basis.len() + 2
     }
 
-    /// The number of the row in the column; the objective row is behind those of the constraints.
+    /// The number in this row and column. The objective row comes after those of the constraints.
     pub fn entry(&self, row: usize, column: usize) -> i128
         requires row { row ≤ length self.now.basis }
         requires column { column < length (objective self.now) }
@@ -111,7 +112,7 @@ impl PlainRows {
         i128::from(self.number(row, column))
     }
 
-    /// The same in 64 bits, which it fits.
+    /// The number in this row and column, which fits 64 bits.
     pub fn number(&self, row: usize, column: usize) -> i64
         requires row { row ≤ length self.now.basis }
         requires column { column < length (objective self.now) }
@@ -155,8 +156,8 @@ impl PlainRows {
         self.basis[row]
     }
 
-    /// Makes pivots, each on the column that enters and the row that leaves, until the table is best, no pivot can be made, or
-    /// as many as are allowed were made. It tells which of these it was, and how many were made. It takes no memory.
+    /// Runs the simplex by Bland's rule (Bland 1977) until the tableau is optimal, no pivot can be made, or the limit
+    /// on pivots is reached. It returns which of these it was, and the number of pivots made. It allocates nothing.
     pub fn run(&mut self) -> (Ended, u32)
         ensures { run self.old ≡ record { table = self.new; ended = result.0; pivots = result.1 } }
     {

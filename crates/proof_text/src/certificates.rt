@@ -1,4 +1,4 @@
-//! The certificate of what a search found, with all of its duals.
+//! The certificate of a finding, with all of its duals.
 
 ghost use Rattle.std.specs.Prelude.{◌≡◌, IfOk, All};
 ghost use Rattle.cert_scan.specs.Versions.{version_number};
@@ -15,10 +15,11 @@ use dual_lender::DualLender;
 use hub_model::{Dual, Instance, Plan, TreeLine};
 use std::alloc::{AllocError, Global};
 
-/// The certificate of what a search of the instance found in this version, with the duals of each cut computed again, and
-/// those of a Pareto-optimal cut or one that was given copied. In the third version Pareto-optimal cuts are marked. The
-/// first version is for findings that it has lines for: the part of each cut is 1, its duals have at most 30 digits, and
-/// no tree line says that a commodity is blocked or hubs are too few.
+/// The certificate of a finding in this version. The duals of each cut are computed again; those of an explicit cut
+/// (Pareto-optimal or imported) are copied. In the third version Pareto-optimal cuts are marked.
+///
+/// The first version is only for findings that it has lines for. There each cut has the part 1, and its duals have at
+/// most 30 digits. No leaf is infeasible for a commodity or for the wanted number of hubs.
 pub fn certificate_of(
     alloc: Global,
     instance: &Instance,

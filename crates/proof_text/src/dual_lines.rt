@@ -1,4 +1,4 @@
-//! The lines of a stored cut: the one that begins it, and those of its duals.
+//! The lines of a stored cut: its first line, and those of its duals.
 
 ghost use Rattle.std.specs.Prelude.{◌≡◌, ◌<◌};
 ghost use Rattle.cert_scan.specs.Versions.{version_number};

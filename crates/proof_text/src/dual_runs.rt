@@ -1,4 +1,4 @@
-//! The lines of the duals of an origin from the second version on: equal neighbours are one line.
+//! The lines of the duals of an origin from the second version on: a run of equal duals is one line.
 
 ghost use Rattle.std.specs.Prelude.{◌≡◌, ◌<◌};
 ghost use Rattle.cert_spec.specs.Lines.{says_dual};

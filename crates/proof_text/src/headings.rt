@@ -1,4 +1,4 @@
-//! The first lines of the text of what a search found.
+//! The first lines of the text of a finding.
 
 ghost use Rattle.hub_spec.specs.Problem.{IsProblem};
 ghost use Rattle.hub_spec.specs.Trees.{Tree};

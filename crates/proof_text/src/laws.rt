@@ -1,19 +1,18 @@
-//! What the text is the text of.
+//! Laws of the text.
 
 ghost use Rattle.proof_text.specs.Texts.{FoundTextIsCertificate, StatedIsUnmarked, StatedHolds};
 
-/// The text of a finding is that of its certificate in the same version, with each tree that has the lines which were
-/// found.
+/// The text of a finding is that of its certificate in the same version, for every tree with the lines of the finding.
 pub fn found_text_is_certificate()
     ensures { FoundTextIsCertificate }
 {}
 
-/// Before the third version, and where no cut is marked in it too, the certificate has no mark.
+/// The certificate has no mark before the third version, nor where no stored cut has one.
 pub fn stated_is_unmarked()
     ensures { StatedIsUnmarked }
 {}
 
-/// The certificate holds with its marks, and is in range in a version that has a text for it.
+/// The certificate holds with its marks, and is in range in every version that has a text for it.
 pub fn stated_holds()
     ensures { StatedHolds }
 {}

@@ -1,4 +1,4 @@
-//! A text in memory, as a sink takes it.
+//! A sink that takes a text into memory.
 
 ghost use Rattle.std.specs.Prelude.{◌≡◌, [], Some};
 

@@ -1,4 +1,4 @@
-//! A cut of a finding, as its lines are put.
+//! A cut of a finding with its number, as its lines are put.
 
 use cert_format::Version;
 use cut_pool::KeptCut;

@@ -1,4 +1,4 @@
-//! The lines of a finding's cuts by places: a place is an origin of a cut, in the order of the cuts.
+//! The lines of a finding's cuts by places. A place is an origin of a cut, in the order of the cuts.
 
 ghost use Rattle.std.specs.Prelude.{◌≡◌, ◌+◌, ◌/◌, ◌%◌, ◌<◌};
 ghost use Rattle.cert_scan.specs.Versions.{version_number};

@@ -1,4 +1,4 @@
-//! The lines of the duals of an origin of a marked cut: each dual is followed by its proof.
+//! The lines of the duals of an origin of a marked cut: each dual line is followed by the line of its proof.
 
 ghost use Rattle.std.specs.Prelude.{◌≡◌, ◌*◌, ◌<◌, ◌∷◌, [], length};
 ghost use Rattle.cert_spec.specs.Lines.{says_dual, says_proof};

@@ -1,4 +1,4 @@
-//! The texts of some places one after another, by workers side by side.
+//! The texts of consecutive places, by workers side by side.
 
 ghost use Rattle.std.specs.Prelude.{◌≡◌, ◌<◌, ◌+◌, ◌/◌, Some, flat_map, IfOk};
 ghost use Rattle.cert_spec.specs.Text.{line_bytes};

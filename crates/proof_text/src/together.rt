@@ -17,8 +17,7 @@ use hub_io::{Buffer, Failed, OpenGate, Sink};
 use std::alloc::Global;
 use std::thread::Threads;
 
-/// Who works out texts side by side: so many workers, 1 to 64, each in a thread of its own where one can be made, and the
-/// memory that they take.
+/// The workers that compute texts: 1 to 64, each in its own thread where one can be made, with their allocator.
 #[derive(Clone, Copy)]
 pub struct Workers<'a, R> {
     pub rt: &'a R,

@@ -1,4 +1,4 @@
-//! The text of the certificate of what a search found, put part by part.
+//! The text of the certificate of a finding, put part by part.
 
 ghost use Rattle.std.specs.Prelude.{◌≡◌, ◌≤◌, All};
 ghost use Rattle.cert_spec.specs.Text.{cut_items_as};
@@ -23,7 +23,7 @@ use hub_io::{Buffer, Failed, Sink};
 use hub_model::Instance;
 use std::thread::Threads;
 
-/// What a search of the instance found, and the version of the text that is written of it.
+/// The finding of a search of the instance, and the version of its text.
 #[derive(Clone, Copy)]
 pub struct Finding<'a> {
     pub instance: &'a Instance,
@@ -31,10 +31,11 @@ pub struct Finding<'a> {
     pub version: Version,
 }
 
-/// Writes the certificate of the finding; in the third version, Pareto-optimal cuts are marked. It fails only where a put does.
+/// Writes the certificate of the finding. In the third version Pareto-optimal cuts are marked. It fails only where a
+/// put does.
 ///
-/// Each dual is computed again: by the lender, which is for the instance, or by the workers. The text is the same for
-/// every number of workers. One worker takes no memory, and where memory for several is wanting, the lender does their
+/// Each dual is computed again, by the lender, which is for the instance, or by the workers. The text does not depend
+/// on the number of workers. One worker allocates nothing. Where memory for several runs out, the lender does their
 /// work.
 pub fn write_found<R: Threads + Sync, K: Sink>(
     workers: &Workers<R>,

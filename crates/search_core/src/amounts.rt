@@ -1,4 +1,4 @@
-//! Amounts of leaves.
+//! Bounds and weights of leaves.
 
 ghost use Rattle.std.specs.Prelude.{◌≡◌};
 ghost use Rattle.leaf_bound.specs.Weighing.{most_bound, IsWithin};
@@ -6,10 +6,10 @@ ghost use Rattle.search_spec.specs.States.{lesser, rounded_up};
 
 use hub_model::unsigned;
 
-/// The whole weight of a leaf, in 10^-6: the denominator of every leaf that a search makes.
+/// The greatest sum of the weights of a leaf, in 10^-6: the denominator of every leaf that a search makes.
 pub const WHOLE_WEIGHT: u128 = 1_000_000;
 
-/// The lesser of a number and another, if there is another.
+/// The lesser of the two numbers, or the first where there is no other.
 pub fn lesser(number: u128, other: Option<u128>) -> u128
     ensures { result ≡ lesser number other }
 {
@@ -19,7 +19,7 @@ pub fn lesser(number: u128, other: Option<u128>) -> u128
     }
 }
 
-/// A bound, in 10^-12 times the whole weight, in 10^-12 and rounded up; 0 for one below 0.
+/// The bound, given in 10^-12 times the whole weight, in 10^-12 and rounded up; 0 where it is negative.
 pub fn rounded_up(bound: i128) -> u128
     requires { IsWithin most_bound bound }
     ensures { result ≡ rounded_up bound }

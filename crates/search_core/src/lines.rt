@@ -10,7 +10,7 @@ use crate::WHOLE_WEIGHT;
 use hub_model::{MOST_TREE_LINES, Mix, TreeLine};
 use std::alloc::{AllocError, Global};
 
-/// Adds a line, unless the tree is as long as a certificate's can be.
+/// Appends a line. It fails where memory runs out, or where the tree has as many lines as a certificate can have.
 pub fn add_line(lines: &mut Vec<TreeLine>, line: TreeLine) -> Result<(), AllocError>
     ensures added { OnOk result (lines.new.items ≡ lines.old.items ++ line ∷ []) }
     ensures few { OnOk result (length lines.new.items ≤ most_tree_lines) }
@@ -22,7 +22,7 @@ pub fn add_line(lines: &mut Vec<TreeLine>, line: TreeLine) -> Result<(), AllocEr
     Ok(())
 }
 
-/// The leaf with the whole weight on the cut of this number, which closes it alone.
+/// The leaf that is fathomed by this cut alone, with the whole weight on it.
 pub fn whole_leaf(alloc: Global, number: u64) -> Result<TreeLine, AllocError>
     requires { 1 ≤ number }
     ensures { IfOk result (λ line. tree_line_of line ≡ leaf_of denominator (whole_on number)) }

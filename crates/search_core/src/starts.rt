@@ -1,11 +1,11 @@
-//! What a search begins again with.
+//! The warm start of a search.
 
 use cut_model::StatedCut;
 
-/// What a search begins again with: cuts that are given, and hubs that are tried first.
+/// A warm start: imported cuts, and hubs that are tried first.
 #[derive(Drop)]
 pub struct Start {
-    /// The cuts, in the order in which they get their numbers.
+    /// The cuts, in the order in which they are numbered.
     pub cuts: Vec<StatedCut>,
     /// The hubs, ascending.
     pub hubs: Vec<u32>,

@@ -1,4 +1,4 @@
-//! What a search is to do.
+//! The task of a search.
 
 ghost use Rattle.std.specs.Prelude.{◌≡◌, ◌+◌, ◌<◌, ◌^◌, IsTrue, false};
 ghost use Rattle.search_spec.specs.Findings.{AreWithin, IsSpent};
@@ -6,24 +6,24 @@ ghost use Rattle.search_core.specs.Tasks.{IsTaskOf, allows_two};
 
 use hub_model::Instance;
 
-/// The instance that is searched, and the most nodes of the tree, the root among them, where they are limited.
+/// The instance to solve, and the node limit of the tree, if there is one.
 #[derive(Clone, Copy)]
 pub struct Task<'a> {
     /// The instance.
     pub instance: &'a Instance,
-    /// The most nodes.
+    /// The most nodes of the tree, the root included.
     pub nodes: Option<u64>,
 }
 
 impl<'a> Task<'a> {
-    /// The task to search the instance with at most so many nodes.
+    /// The task to solve the instance with at most `nodes` nodes, or without a limit.
     pub fn new(instance: &'a Instance, nodes: Option<u64>) -> Task<'a>
         ensures { IsTaskOf instance.now nodes result }
     {
         Task { instance, nodes }
     }
 
-    /// Tells whether two nodes more are allowed, where so many were made.
+    /// Tells whether two more nodes are within the limit, after `made` nodes.
     pub fn allows_two(&self, made: u64) -> bool
         requires { made + 2 < 2 ^ 64 }
         ensures is { result ≡ allows_two self.now.nodes made }

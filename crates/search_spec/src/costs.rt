@@ -1,19 +1,20 @@
-//! What the search costs at most.
+//! Upper bounds on the cost that a search finds.
 
 ghost use Rattle.search_spec.specs.Costs.{CostNeverRises, BegunIsAtMost, AgainIsAtMost};
 
-/// What a search finds costs at most what it began with.
+/// A search finds a cost no greater than that of its first incumbent.
 pub fn cost_never_rises()
     ensures { CostNeverRises }
 {}
 
-/// The rule begins with the cost of all candidates, or where a number of hubs is wanted of as many of the least candidates.
+/// The first incumbent costs no more than all candidates as hubs, or, for exactly p hubs, than the p least candidates,
+/// where these are feasible.
 pub fn begun_is_at_most()
     ensures { BegunIsAtMost }
 {}
 
-/// One that begins again begins with at most this, and with at most the cost of the hubs that are given, where these are a
-/// hub set that is wanted.
+/// After a warm start that bound holds too. The first incumbent also costs no more than the older hubs, where they are
+/// a hub set with the wanted number.
 pub fn again_is_at_most()
     ensures { AgainIsAtMost }
 {}

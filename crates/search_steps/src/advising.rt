@@ -1,4 +1,4 @@
-//! What the master of a node's branch advises.
+//! The restricted master problem of a node.
 
 ghost use Rattle.std.specs.Prelude.{◌≡◌, ◌*◌, ◌/◌, ◌≤◌, ◌^◌, length, map, All, IfOk, IfSome};
 ghost use Rattle.hub_spec.specs.Trees.{IsBranch};
@@ -15,11 +15,12 @@ use frac_master::{Advice, ShortRows, advise_by_totals};
 use hub_model::{Branch, Instance};
 use std::alloc::{AllocError, Global};
 
-/// What the master of the branch advises, by the cuts of the pool, asked with the fixed costs that the rule has for an
-/// incumbent of this cost: the master is told the totals and loads for one unit of each cut's part, and each weight is
-/// lowered to a multiple of its cut's part.
+/// Solves the restricted master problem of the branch over the cuts of the pool: weights on the cuts, and a point.
 ///
-/// The answer is `AllocError` where memory runs out, and where the master is beyond what its rows can hold.
+/// The master gets the totals and loads of each cut divided by its part, and the fixed costs that the rule has for an
+/// incumbent of this cost. Each weight is lowered to a multiple of its cut's part.
+///
+/// `AllocError` means that memory ran out, or that the master is larger than its tableau can hold.
 pub fn node_advice<R: Rule>(
     rule: &R,
     alloc: Global,

@@ -1,4 +1,4 @@
-//! What a search asks.
+//! The interface of separation.
 
 ghost use Rattle.std.specs.Prelude.{◌≡◌, IfOk};
 ghost use Rattle.hub_spec.specs.Plans.{IsHubSet};
@@ -11,7 +11,7 @@ use cut_pool::CutSums;
 use hub_model::{HubSet, Instance};
 use std::alloc::{AllocError, Global};
 
-/// What was worked out of the cut of a hub set.
+/// The separated cut of a hub set.
 #[derive(Drop)]
 pub enum Separated {
     /// The sums of a cut whose duals can be computed again.
@@ -32,7 +32,7 @@ impl Separated {
     }
 }
 
-/// Something that separates hub sets: it works out their cuts.
+/// Separates hub sets: computes their Benders cuts.
 pub trait Separator {
     // Which cuts it works out.
     ghost kind: { CutKind };
@@ -40,7 +40,7 @@ pub trait Separator {
     // What holds of a separator that may be asked.
     ghost ready: { Self → Type 0 };
 
-    /// The cut of the hub set over this order of the candidates outside it: its sums, in 10^-12, or the Pareto-optimal cut.
+    /// The cut of the hub set over this order of the other candidates: its sums, in 10^-12, or the Pareto-optimal cut.
     fn separate(
         &mut self,
         alloc: Global,

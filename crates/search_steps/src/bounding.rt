@@ -1,4 +1,4 @@
-//! The bound of a node's weights, and what it is compared with.
+//! The bound of a node under its weights, and its comparisons.
 
 ghost use Rattle.std.specs.Prelude.{◌≡◌, ◌≤◌, ◌^◌, ◌↔◌, ◌<ℤ◌, length, IsTrue, if◌then◌else◌};
 ghost use Rattle.hub_spec.specs.Trees.{IsBranch, HasRoom};
@@ -11,8 +11,8 @@ use hub_model::Branch;
 use leaf_bound::threshold;
 use search_core::WHOLE_WEIGHT;
 
-/// Tells whether the bound of the branch under the advised weights is above that under the present ones: then a search
-/// goes on with those that are advised.
+/// Tells whether the bound of the branch under the new weights exceeds that under the present ones. Then the search
+/// takes the new weights.
 pub fn is_better<R: Rule>(
     rule: &R,
     present: &NodeWeights,
@@ -38,8 +38,8 @@ pub fn is_better<R: Rule>(
     rule.bound(present, branch) < rule.bound(&other, branch)
 }
 
-/// Tells whether the bound of the branch under these weights closes the incumbent's cost, which is in 10^-12: no plan of
-/// the branch then costs less.
+/// Tells whether the branch is fathomed by its bound under these weights at the incumbent's cost, in 10^-12. Then no
+/// plan of the branch costs less.
 pub fn closes<R: Rule>(rule: &R, weighed: &NodeWeights, branch: &Branch, cost: u128) -> bool
     requires serves { R.serves rule.now weighed.now.instance.now }
     requires weighed { AreWeighed weighed.now }

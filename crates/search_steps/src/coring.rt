@@ -8,11 +8,10 @@ use core_cuts::core_cut;
 use hub_model::{HubSet, Instance};
 use std::alloc::{AllocError, Global};
 
-/// Separates Pareto-optimal cuts, on the thread that asks. Where a hub set has none, its cut is the one that another
-/// separator works out.
+/// Separates Pareto-optimal cuts, on the calling thread. Where a hub set has none, another separator computes its cut.
 #[derive(Drop)]
 pub struct Coring<S: Drop> {
-    /// Who works out the other cuts.
+    /// The separator of the other cuts.
     pub others: S,
 }
 

@@ -1,4 +1,4 @@
-//! The rule for plans with exactly p hubs.
+//! The rule for exactly p hubs.
 
 ghost use Rattle.std.specs.Prelude.{◌≡◌, Some};
 
@@ -10,10 +10,10 @@ use leaf_bound::Side;
 use p_hub::{bound_p, fix_p};
 use std::alloc::{AllocError, Global};
 
-/// The rule for plans with exactly p hubs: a branch ends where it cannot have so many, and is one hub set where its
-/// hubs are as many, or all its nodes are that are not closed.
+/// The rule for exactly p hubs. A branch ends where it cannot have p hubs. It has a single hub set where p candidates
+/// are open, or where exactly p are not closed.
 pub struct Counted {
-    /// How many hubs are wanted.
+    /// The wanted number of hubs, p.
     pub hubs: u32,
 }
 

@@ -14,8 +14,8 @@ use hub_model::Plan;
 use search_core::{Task, lesser};
 use std::alloc::{AllocError, Global};
 
-/// What is found where the search has this at its end: the incumbent with its least routes, what no plan costs less than,
-/// and the cuts and the lines that show it.
+/// The finding of a search that has ended: the incumbent with its least routes, the lower bound, and the cuts and the
+/// tree that prove it.
 pub fn finish(alloc: Global, task: &Task, progress: Progress) -> Result<Found, AllocError>
     requires going { IsGoing task.now progress }
     ensures { let p = task.now.instance.now in (g : Grown) → state_of p progress ≡ g.state → lines_of progress.lines.items ≡ preorder g.tree

@@ -1,4 +1,4 @@
-//! What holds of the rule by each kind of cuts.
+//! Laws of the rule, for each kind of cuts.
 
 ghost use Rattle.search_steps.specs.KindTheorems.{PartsAreSound, MinimalIsRule, KeptIsOfSet};
 
@@ -7,12 +7,12 @@ pub fn parts_are_sound()
     ensures { PartsAreSound }
 {}
 
-/// By minimal duals the rule is the one without Pareto-optimal cuts.
+/// With minimal duals, the rule is the one without Pareto-optimal cuts.
 pub fn minimal_is_rule()
     ensures { MinimalIsRule }
 {}
 
-/// What is kept of a hub set's cut is of that set, and has the cut and its mark.
+/// What the pool stores of a hub set's cut is of that set, and has the cut and its mark.
 pub fn kept_is_of_set()
     ensures { KeptIsOfSet }
 {}

@@ -10,9 +10,9 @@ use hub_model::{Mix, TreeLine, signed};
 use search_core::WHOLE_WEIGHT;
 use std::alloc::{AllocError, Global};
 
-/// The leaf with these weights on the first cuts, in 10^-6: those above 0 are listed, by cut numbers from 1.
+/// The leaf with these weights on the first cuts, in 10^-6. Weights above 0 are listed, by cut numbers from 1.
 ///
-/// The answer is `AllocError` where memory runs out.
+/// It fails where memory runs out.
 pub fn leaf_line(alloc: Global, weights: &[u128]) -> Result<TreeLine, AllocError>
     requires { All (λ w. w < 2 ^ 127) weights.now }
     ensures { IfOk result (λ line. tree_line_of line ≡ leaf_of denominator (pairs_of weights.now)) }

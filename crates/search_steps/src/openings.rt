@@ -1,4 +1,4 @@
-//! The candidates that may yet be hubs, and the commodity that they lack.
+//! The candidates that are not closed, and the first commodity for which they are infeasible.
 
 ghost use Rattle.std.specs.Prelude.{◌≡◌, ◌∷◌, [], None, not, option_map, IfOk};
 ghost use Rattle.hub_spec.specs.Problem.{IsProblem};

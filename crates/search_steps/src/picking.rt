@@ -1,4 +1,4 @@
-//! The hub set that is separated, and the node that is branched on, by the point of an advice.
+//! The hub set to separate, and the node to branch on, by the master's point.
 
 ghost use Rattle.std.specs.Prelude.{◌≡◌, ◌≤◌, ◌&&◌, ◌||◌, ◌+◌, ◌*◌, ◌*ℤ◌, ◌-ℤ◌, pos, length, slice_index_or, unsigned_abs, int_le, int_lt, nat_lt, Contains, IfOk};
 ghost use Rattle.std.specs.Int.{int_rem_euclid};
@@ -99,7 +99,8 @@ fn first_greatest(point: &[i128], nodes: &[u32]) -> u32
     best
 }
 
-/// The free node of the branch whose point is nearest to half of the scale, of equally near ones the least.
+/// The node to branch on: the free one whose number in the point is nearest to half of the scale, with ties to the
+/// least node.
 pub fn nearest(advice: &Advice, branch: &Branch) -> u32
     requires { 1 ≤ length branch.now.free }
     ensures nearest { result ≡ nearest_half (told_by (advice_of_code advice.now)) branch.now }

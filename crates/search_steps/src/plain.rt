@@ -1,4 +1,4 @@
-//! The rule for plans with any number of hubs.
+//! The rule for any number of hubs.
 
 ghost use Rattle.std.specs.Prelude.{◌≡◌, None};
 
@@ -11,8 +11,8 @@ use hub_model::{Branch, HubSet, Instance, TreeLine};
 use leaf_bound::Side;
 use std::alloc::{AllocError, Global};
 
-/// The rule for plans with any number of hubs: a branch ends where every candidate is closed, or where its nodes that
-/// are not closed are infeasible for a commodity, and is one hub set where no node is free.
+/// The rule for any number of hubs. A branch ends where every candidate is closed, or where those not closed are
+/// infeasible for a commodity. It has a single hub set where no node is free.
 pub struct Plain;
 
 impl Rule for Plain {

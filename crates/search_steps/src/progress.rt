@@ -1,4 +1,4 @@
-//! What a search has so far.
+//! The state of a search.
 
 ghost use Rattle.std.specs.Prelude.{◌≡◌, ◌≤◌, ◌+◌, OnOk};
 ghost use Rattle.hub_spec.specs.Limits.{most_tree_lines};
@@ -10,25 +10,25 @@ use hub_model::{HubSet, MOST_TREE_LINES, TreeLine};
 use search_core::Task;
 use std::alloc::AllocError;
 
-/// The cuts, the lines of the tree that are finished, the incumbent with its cost, the nodes made, and after a stop the
-/// least that a leaf of the stop says of every plan. Costs are in 10^-12.
+/// The state of a search: the pool, the finished lines of the tree, the incumbent with its cost, and the number of
+/// nodes. After a stop it has the least bound of the leaves that the stop left. Costs and bounds are in 10^-12.
 #[derive(Drop)]
 pub struct Progress {
     /// The cuts.
     pub pool: Pool,
-    /// The lines of the tree.
+    /// The finished lines of the tree.
     pub lines: Vec<TreeLine>,
     /// The incumbent.
     pub hubs: HubSet,
-    /// Its cost.
+    /// The incumbent's cost, in 10^-12.
     pub cost: u128,
-    /// The nodes made, the root among them.
+    /// The number of nodes made, the root included.
     pub made: u64,
-    /// After a stop, the least that a leaf of the stop says of every plan.
+    /// After a stop, the least bound of the leaves that it left, in 10^-12.
     pub stop: Option<u128>,
 }
 
-/// Tells whether two nodes more are allowed.
+/// Tells whether two more nodes are within the limit.
 pub fn may_split(task: &Task, progress: &Progress) -> bool
     requires { IsGoing task.now progress.now }
     ensures { result ≡ may_split task.now.nodes (state_of task.now.instance.now progress.now) }
@@ -36,7 +36,7 @@ pub fn may_split(task: &Task, progress: &Progress) -> bool
     task.allows_two(progress.made)
 }
 
-/// Counts two nodes more, unless the tree would have more lines than a certificate's can have.
+/// Counts two more nodes. It fails where the tree would have more lines than a certificate can have.
 pub fn two_more(progress: &mut Progress) -> Result<(), AllocError>
     requires few { progress.old.made ≤ most_tree_lines }
     ensures more { OnOk result (progress.new ≡ (record progress.old { made = progress.old.made + 2 })) }

@@ -1,4 +1,4 @@
-//! The choices of a search that hang on the plans that are wanted.
+//! The choices of a search that depend on the wanted number of hubs.
 
 ghost use Rattle.std.specs.Prelude.{◌≡◌, ◌≤◌, ◌^◌, [], ◌∷◌, false, None, option_map, IfOk};
 ghost use Rattle.hub_spec.specs.Problem.{Problem, IsProblem};
@@ -20,26 +20,26 @@ use hub_model::{Branch, HubSet, Instance, TreeLine};
 use leaf_bound::Side;
 use std::alloc::{AllocError, Global};
 
-/// The rule of a search: its choices, as far as they hang on the plans that are wanted. Costs are in 10^-12.
+/// The rule of a search: its choices that depend on the wanted number of hubs. Costs are in 10^-12.
 ///
-/// Each choice is that of the search's definition, for the instances that the rule serves. A branch has room where it
-/// can have as many hubs as are wanted, if a number is: a search bounds no other.
+/// Each choice is that of the search's definition, for the instances of the rule. A branch has room where it can have
+/// the wanted number of hubs, or where none is wanted. A search bounds no other branch.
 pub trait Rule {
     // The instances that it is the rule of.
     ghost serves: { Self → Problem → Type 0 };
 
-    /// The set that is the first incumbent, if it is not that of all candidates.
+    /// The hub set of the first incumbent, or `None` for the set of all candidates.
     fn first_set(&self, alloc: Global, instance: &Instance) -> Result<Option<Vec<u32>>, AllocError>
         requires { serves self.now instance.now }
         ensures { IfOk result (λ set. option_map (λ hubs. hubs.items) set ≡ first_set instance.now) };
 
-    /// The line of a branch in which no hub set is left, as its numbers of hubs and of free nodes tell.
+    /// The leaf of a branch that has no hub set because of its numbers of open and free nodes, if it is one.
     fn end(&self, branch: &Branch) -> Option<TreeLine>
         ensures { (p : Problem) → serves self.now p
             → option_map (λ line. tree_line_of line ∷ []) result ≡ option_map preorder ((parts_of p).barren branch.now) };
 
-    /// The line of a branch in which no hub set is left since all its nodes that are not closed are infeasible for a commodity
-    /// together. The branch has no end by its numbers.
+    /// The leaf of a branch whose nodes that are not closed are infeasible for a commodity together, if it is one.
+    /// `end` gives no leaf for the branch.
     fn blocked(
         &self,
         alloc: Global,
@@ -52,7 +52,7 @@ pub trait Rule {
         ensures { let p = instance.now in IfOk result
             (λ line. option_map (λ l. tree_line_of l ∷ []) line ≡ option_map preorder ((parts_of p).blocked branch.now)) };
 
-    /// The one hub set that is left in a branch, if just one is; of a branch with an end it may be empty.
+    /// The only hub set of a branch, if it has just one. For a branch that ends it may be empty.
     fn alone(
         &self,
         alloc: Global,
@@ -63,8 +63,8 @@ pub trait Rule {
         requires branch { IsBranch instance.now branch.now }
         ensures { IfOk result (λ set. option_map (λ hubs. hubs.items) set ≡ (parts_of instance.now).only branch.now) };
 
-    /// The fixed costs that the master is asked with, where the incumbent has this cost. They stand in the room, unless
-    /// they are the instance's own.
+    /// The fixed costs for the master, where the incumbent has this cost. They are in `room`, unless they are the
+    /// instance's own.
     fn advised_costs<'a>(
         &self,
         instance: &'a Instance,
@@ -86,8 +86,8 @@ pub trait Rule {
             (λ s. result ≡ bound_at p s branch.now (pairs_of weighed.now.weights.now)) }
         ensures limit { IsWithin most_bound result };
 
-    /// The free nodes of the branch, ascending, of which a side stays under these weights, each with that side: the child
-    /// on its other side closes the incumbent's cost. The branch itself does not close it.
+    /// Variable fixing: the free candidates of the branch that these weights decide, ascending, each with the side that
+    /// stays. The child on its other side is fathomed at the incumbent's cost. The branch itself is not.
     fn fixings(
         &self,
         alloc: Global,
@@ -106,7 +106,7 @@ pub trait Rule {
             IfOk result (λ sides. InEachStateAt p weighed.now.pool.now.entries cost
             (λ s. sides_as sides.items ≡ fixings p s branch.now (pairs_of weighed.now.weights.now))) };
 
-    /// The hub set that is separated by the advice.
+    /// The hub set to separate, by the master's point.
     fn pick(
         &self,
         alloc: Global,

@@ -22,7 +22,7 @@ use hub_model::{HubSet, Instance, MOST_CUTS};
 use search_core::Task;
 use std::alloc::{AllocError, Global};
 
-/// The number of the set's cut in the pool, counted from 1, if it has been separated.
+/// The number of the set's cut in the pool, counted from 1, if the set has been separated.
 pub fn number_of(progress: &Progress, set: &HubSet) -> Option<u64>
     ensures number { (p : Problem) → result ≡ number_in_pool (state_of p progress.now) set.now }
     ensures least { IfSome result (λ c. 1 ≤ c) }
@@ -118,9 +118,9 @@ fn add_core(
     Ok(cost)
 }
 
-/// Separates the set over this order of the other candidates. It becomes the incumbent if it costs less.
+/// Separates the set over this order of the other candidates. The set becomes the incumbent if it costs less.
 ///
-/// The answer is `AllocError` also where there are as many cuts as a certificate can have.
+/// It fails where memory runs out, or where there are as many cuts as a certificate can have.
 pub fn separate<S: Separator>(
     alloc: Global,
     task: &Task,
@@ -143,10 +143,10 @@ pub fn separate<S: Separator>(
     keep(alloc, task, progress, cut, order)
 }
 
-/// Keeps the cut of a set that was separated over this order of the other candidates: the rest of its separation. The set
-/// becomes the incumbent if it costs less.
+/// Stores the cut of a set that was separated over this order of the other candidates: the second half of `separate`.
+/// The set becomes the incumbent if it costs less.
 ///
-/// The answer is `AllocError` also where there are as many cuts as a certificate can have.
+/// It fails where memory runs out, or where there are as many cuts as a certificate can have.
 pub fn keep(
     alloc: Global,
     task: &Task,

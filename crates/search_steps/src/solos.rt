@@ -15,10 +15,10 @@ use pareto_cuts::{Scratch, cut_sums};
 use std::alloc::{AllocError, Global};
 use std::marker::Model;
 
-/// Separates on the thread that asks.
+/// Separates on the calling thread.
 ///
-/// It is seen as the number of nodes that it has room for, and takes more room where a larger instance comes. Otherwise
-/// a call takes memory for the loads of its result alone.
+/// It is seen as the number of nodes for which its workspace is allocated. The workspace grows for a larger instance.
+/// Otherwise a call allocates only the loads of its result.
 #[derive(Drop)]
 pub struct Solo {
     room: u32,
@@ -37,7 +37,7 @@ impl Model for Solo {
 }
 
 impl Solo {
-    /// A separator with room for the instance's nodes.
+    /// A separator with a workspace for the instance's nodes.
     pub fn new(alloc: Global, instance: &Instance) -> Result<Solo, AllocError>
         ensures room { IfOk result (λ room. room ≡ instance.now.size) }
         ensures problem { IsProblem instance.now }
@@ -50,7 +50,7 @@ impl Solo {
         })
     }
 
-    /// The sums of the cut of minimal duals of the hub set over this order of the candidates outside it, in 10^-12.
+    /// The sums of the cut of minimal duals of the hub set over this order of the other candidates, in 10^-12.
     pub fn sums(
         &mut self,
         alloc: Global,

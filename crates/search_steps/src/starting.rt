@@ -17,8 +17,8 @@ use hub_model::{HubSet, outside};
 use search_core::Task;
 use std::alloc::{AllocError, Global};
 
-/// The cut of the set of all candidates, and that of the rule's first set, if it has one, which is then the first
-/// incumbent.
+/// The first state of a search. Its pool has the cut of the set of all candidates, and that of the rule's first set, if
+/// there is one. The last of them is the first incumbent.
 pub fn begin<R: Rule, S: Separator>(
     alloc: Global,
     rule: &R,

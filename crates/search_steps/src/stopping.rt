@@ -1,4 +1,4 @@
-//! The leaf that a stop makes of a branch.
+//! The leaf of a branch that a stop left.
 
 ghost use Rattle.std.specs.Prelude.{◌≡◌, ◌∷◌, [], IfOk, OnOk};
 ghost use Rattle.hub_spec.specs.Trees.{IsBranch, HasRoom, preorder};
@@ -13,8 +13,8 @@ use hub_model::{Branch, TreeLine};
 use search_core::{Task, lesser, rounded_up};
 use std::alloc::{AllocError, Global};
 
-/// The leaf that a stop makes of the branch, which has room for the wanted hubs, with these weights. What it says of every
-/// plan is put into the stop.
+/// The leaf of a branch that a stop left, with these weights. The branch has room for the wanted hubs. Its bound goes
+/// into the state's stop.
 pub fn stopped_leaf<R: Rule>(
     alloc: Global,
     rule: &R,

@@ -1,4 +1,4 @@
-//! What the bounds at a node are made of.
+//! The data of the bounds at a node.
 
 ghost use Rattle.hub_spec.specs.Problem.{IsProblem};
 ghost use Rattle.search_steps.specs.Weights.{IsNodeWeighting};
@@ -11,7 +11,7 @@ use search_core::WHOLE_WEIGHT;
 /// Weights on the first cuts of a search's pool, in 10^-6.
 #[derive(Clone, Copy)]
 pub struct NodeWeights<'a> {
-    /// The instance that is searched.
+    /// The instance.
     pub instance: &'a Instance,
     /// The cuts.
     pub pool: &'a Pool,

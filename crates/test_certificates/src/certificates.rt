@@ -1,29 +1,29 @@
-//! Certificates, a case a line of standard input: their texts scanned (`cert_scan`), read and written (`cert_format`),
-//! checked whole (`cert_checker`) and as they come (`cert_conditions`), tried as older ones (`cert_checker`, `warm_start`),
-//! and reported (`network_report`).
+//! Cases of certificates: their texts scanned (`cert_scan`), read and written (`cert_format`), checked whole
+//! (`cert_checker`) and as they come (`cert_conditions`), tested as older ones (`cert_checker`, `warm_start`), and
+//! reported (`network_report`).
 //!
-//! Each line is printed back, and below it what the calls gave. A line that begins with `#` and an empty one are only
-//! printed back, an `instance` and a `text` only kept. In a text `;` stands for the end of a line, and `~` for a carriage return. A
-//! TEXT is the name of one, with changes behind it, as in `NAME / OLD -> NEW / OLD -> NEW`: the first OLD in it becomes
-//! NEW.
+//! Each case is a line of standard input, printed back, with its results below it. A line that begins with `#` and an
+//! empty one are only printed back. An `instance` and a `text` are stored. In a text `;` ends a line, and `~` is a
+//! carriage return. A TEXT is the name of one, with changes after it, as in `NAME / OLD -> NEW / OLD -> NEW`: the first
+//! OLD in it becomes NEW.
 //!
 //! - `text NAME LINES`: a text, or more of it
 //! - `items TEXT`: the items that a scan gives, and its fault
-//! - `fault TEXT`: the fault that a scan tells, and that of a reading
-//! - `write CALL COUNT TEXT`: the text read and written again; put number CALL fails, with COUNT bytes of it taken
-//!   (0 0: none fails)
-//! - `instance COLLECT TRUNK DELIVER / CANDIDATES / FLOWS / DISTANCES / FIXED COSTS / HUBS LISTED`: the instance of the
-//!   lines below, its factors in 10^-3, the other numbers whole, row by row; HUBS LISTED may be missing
+//! - `fault TEXT`: the fault of a scan, and that of a reading
+//! - `write CALL COUNT TEXT`: the text read and written again; put number CALL fails, with COUNT bytes of it taken; for
+//!   `0 0` none fails
+//! - `instance COLLECT TRUNK DELIVER / CANDIDATES / FLOWS / DISTANCES / FIXED COSTS / HUBS LISTED`: the instance for
+//!   the lines below. Factors are in 10^-3, the other numbers whole, row by row; HUBS LISTED is optional
 //! - `check TEXT`: how the check of the whole text ends, and that of its pieces of 7 bytes
-//! - `older TEXT`: what is said of the text as an older certificate, by its cuts and by its size alone
-//! - `values UNIT TEXT`: the values that advice may begin with, in this unit, by the cuts of the text
-//! - `cuts TEXT`: checks of the text cut in two at every place
-//! - `taken TEXT`: the items of a scan taken one by one, and what is told then
+//! - `older TEXT`: the verdict on the text as an older certificate, by its cuts and by its size alone
+//! - `values UNIT TEXT`: the dual values for a heuristic, in this unit, from the cuts of the text
+//! - `cuts TEXT`: checks of the text cut in two at every position
+//! - `taken TEXT`: the items of a scan taken one by one, and the verdict after them
 //! - `report CALL COUNT TEXT`: the report, where the certificate holds; CALL and COUNT as above
 //! - `reads TEXT`: checks of the text on a shelf, by reads of each length
 //! - `held COPIES MOST TEXT`: checks of the text on a shelf, with its one cut COPIES times, by reads of at most MOST
-//!   bytes: one in which call 1 of the shelf fails, one in which call 2 does, and so on up to the last call
-//! - `name NAME TEXT`: the check of what a shelf holds under a name, then under `g`, where the text stands
+//!   bytes. In one check call 1 of the shelf fails, in the next call 2, and so on up to the last call
+//! - `name NAME TEXT`: the check of the file NAME of a shelf, then of the file `g`, which has the text
 
 mod checks;
 mod names;

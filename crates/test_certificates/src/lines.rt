@@ -1,20 +1,20 @@
-//! Lines of a certificate tried one by one, a case a line of standard input: duals (`dual_lines`), plans,
-//! trees and leaves, and sets of nodes (`cert_lines`).
+//! Cases of single lines of a certificate: duals (`dual_lines`), plans, trees and leaves, and sets of nodes
+//! (`cert_lines`).
 //!
-//! Each line is printed back, and below it what the calls gave. A line that begins with `#` is only printed back, an
-//! empty one passed over. Nodes count from 0, costs, prices, values and loads are in 10^-12.
+//! Each case is a line of standard input, printed back, with its results below it. A line that begins with `#` is only
+//! printed back, and an empty one is skipped. Nodes count from 0. Costs, prices, values and loads are in 10^-12.
 //!
-//! - `instance COLLECT TRUNK DELIVER / CANDIDATES / FLOWS / DISTANCES / FIXED COSTS`: the instance of the lines below,
+//! - `instance COLLECT TRUNK DELIVER / CANDIDATES / FLOWS / DISTANCES / FIXED COSTS`: the instance for the lines below,
 //!   its factors in 10^-3, flows, distances and costs in whole numbers, row by row
-//! - `duals I J PRICE NODE VALUE .. / I J PRICE ..`: duals listed one after another, and whether each holds, also with
-//!   its price raised by 1; before I may stand `part PART`, and then `run RUN`, of so many commodities from J on
+//! - `duals I J PRICE NODE VALUE .. / I J PRICE ..`: consecutive duals, and whether each is feasible, also with its
+//!   price raised by 1. Before I may come `part PART`, and then `run RUN`, for so many commodities from J on
 //! - `plan HUBS / FIRST LAST FIRST LAST ..`: hubs, and a route for each commodity in order, by its first and last hub
-//! - `tree LINE LINE ..`: a node to branch on, `-` to fill the next branch, or `root` to begin anew; what is free behind
+//! - `tree LINE LINE ..`: a node to branch on, `-` to end the next branch, or `root` to restart; the free nodes after
 //!   each line
-//! - `leaf DENOMINATOR / TARGET / LINES / WEIGHT TOTAL LOADS / ..`: whether weighted cuts close the target at the branch
-//!   behind these lines of a tree, `root` for none, and whether the target raised by 1; before a weight may stand
-//!   `part PART`
-//! - `marks SIZE CHANGE CHANGE ..`: a set of nodes below a size, `+K` put in and `-K` taken out
+//! - `leaf DENOMINATOR / TARGET / LINES / WEIGHT TOTAL LOADS / ..`: whether weighted cuts fathom the branch after these
+//!   lines of a tree, `root` for none. It is tested at the cutoff TARGET, and at TARGET raised by 1. Before a weight
+//!   may come `part PART`
+//! - `marks SIZE CHANGE CHANGE ..`: a set of nodes below a size, with `+K` added and `-K` removed
 
 mod duals;
 mod leaves;

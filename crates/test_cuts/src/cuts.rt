@@ -1,15 +1,18 @@
-//! Cases of `hub_edges`, `unit_duals`, `leg_duals`, `assign_sub`, `dual_cuts`, `pareto_cuts`, `core_cuts` and `value_cuts`, a line
-//! of standard input each. Each is printed, with its answer behind it; comments are printed as they are.
+//! Cases of `hub_edges`, `unit_duals`, `leg_duals`, `assign_sub`, `dual_cuts`, `pareto_cuts`, `core_cuts` and
+//! `value_cuts`. Each case is a line of standard input, printed with its result after it. Comments are printed as they
+//! are.
 //!
-//! The line `instance` of a paragraph makes the instance that its lines ask of. It has numbers behind words: `size`,
-//! `candidates`, `flows` (10^-6), `distances` (10^-3), and where they are asked for `fixed` (10^-6), `collect`, `trunk`,
-//! `deliver`, `longest` (10^-3).
+//! The line `instance` of a paragraph makes the instance for its lines. Numbers follow the names `size`, `candidates`,
+//! `flows` (10^-6) and `distances` (10^-3). Optional are `fixed` (10^-6), `collect`, `trunk`, `deliver` and `longest`
+//! (10^-3).
 //!
-//! Of an instance: `row from I to J`, `set_legs` and `first_legs` (of three nodes), and by a `row` of values in a `unit`
-//! `value_sums`, `value_prices` and `value_dual from I to J`. Of some hubs of it, `hubs H ..`: `lacking`, `assign`, `order` (by
-//! a `point`), `cut`, `core_cut`, and with `from I to J` the Pareto-optimal dual (`core_dual`), and the minimal dual by its row
-//! (`row_dual`), by all commodities of its origin (`strong_dual`), and by the parts that work out an origin (`separation`). Of
-//! no instance: `unit_duals`, of legs from stop to stop (`trunk`), to the destinations (`last`) and from an origin (`first`).
+//! - For an instance: `row from I to J`, and `set_legs` and `first_legs` (of three nodes). With a `row` of values in a
+//!   `unit`: `value_sums`, `value_prices` and `value_dual from I to J`.
+//! - For some hubs, `hubs H ..`: `lacking`, `assign`, `order` (by a `point`), `cut` and `core_cut`. With `from I to J`:
+//!   the Pareto-optimal dual (`core_dual`), and the minimal dual by its row (`row_dual`), with all commodities of its
+//!   origin (`strong_dual`), and by the parts that compute an origin (`separation`).
+//! - Without an instance: `unit_duals`, of legs from stop to stop (`trunk`), to the destinations (`last`) and from an
+//!   origin (`first`).
 
 mod cores;
 mod cuts;

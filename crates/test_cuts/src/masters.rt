@@ -1,23 +1,25 @@
-//! Cases of what a search asks of its cuts: `frac_rows` and `plain_rows` (pivots and runs), `frac_master` (masters and their advice),
-//! `leaf_bound`, `hub_fixing` and `p_hub` (bounds of branches, and what they decide) and `cut_pool` (cuts under their numbers).
+//! Cases of what a search does with its cuts. `frac_rows` and `plain_rows` make pivots and simplex runs, and
+//! `frac_master` solves masters. `leaf_bound`, `hub_fixing` and `p_hub` give bounds of branches and their fixings.
+//! `cut_pool` stores cuts.
 //!
-//! A line of standard input is a case, and what it gives is printed. A line that begins with `#` is printed as it is,
-//! and an empty line is passed over. The fields of a case are parted by `;`. Where a field gives numbers, words that are
-//! none are for the reader. A branch has a sign for each node: `+` a hub, `-` closed, `?` free, `.` no candidate. The part
-//! of a cut is 1, but in a field with the word `part`, where it stands before the total.
+//! Each case is a line of standard input, and its result is printed. A line that begins with `#` is printed as it is,
+//! and an empty line is skipped. The fields of a case are separated by `;`. Where a field gives numbers, other words in
+//! it are comments. A branch has a sign for each node: `+` open, `-` closed, `?` free, `.` no candidate. The part of a
+//! cut is 1, unless its field has the word `part`; then the part comes before the total.
 //!
 //!     rows RIGHTS; NUMBERS OF THE VARIABLES, ROW BY ROW; STEP; STEP ..       a step: table, run, or pivot ROW COLUMN
-//!     plain OBJECTIVE; CONSTRAINT / CONSTRAINT ..; STEP ..      a constraint: its numbers, and the right side; a step: table or run
-//!     first BRANCH; FIXED COSTS; TOTAL AND LOADS OF A CUT; ..                the master's first table
-//!     advise BRANCH; FIXED COSTS; TOTAL AND LOADS OF A CUT; ..               what it advises
+//!     plain OBJECTIVE; CONSTRAINT / CONSTRAINT ..; STEP ..     a constraint: numbers, right side; a step: table or run
+//!     first BRANCH; FIXED COSTS; TOTAL AND LOADS OF A CUT; ..                the master's first tableau
+//!     advise BRANCH; FIXED COSTS; TOTAL AND LOADS OF A CUT; ..               its weights and point
 //!     advise-by-totals BRANCH; ..                                            the same, of loads within their totals
 //!     leaf BRANCH; TARGETS; WEIGHTS AND WHAT THEY ARE SHARES OF; FIXED COSTS; TOTAL AND LOADS OF A CUT; ..
-//!     counted P; BRANCH; ..                                  the same where P hubs are wanted
+//!     counted P; BRANCH; ..                                  as leaf, for exactly P hubs
 //!     pick P; BRANCH; POINT                                  P hubs by the point
 //!     pool STEP; STEP ..     a step: reserve COUNT, add SET, ORDER, TOTAL, LOADS, find SET, short, or cuts
 //!
 //! In the order of reading: `fields` (numbers, branches and cuts of a line), `limits` (numbers and nodes within
-//! limits), `tables` (rows), `programs` (plain), `masters`, `weighing` and `leaves` (leaf), `counted` (counted and pick), `pools` (pool).
+//! limits), `tables` (rows), `programs` (plain), `masters`, `weighing` and `leaves` (leaf), `counted` (counted and
+//! pick), `pools` (pool).
 
 mod counted;
 mod fields;

@@ -1,14 +1,16 @@
-//! Cases of `hub_model`, of `test_lines` and of `test_plain`, a line of standard input each. Each is printed, with its
-//! answer behind it; comments are printed as they are.
+//! Cases of `hub_model`, `test_lines` and `test_plain`. Each case is a line of standard input, printed with its result
+//! after it. Comments are printed as they are.
 //!
-//! The first line `instance` of a paragraph makes the instance that its lines ask of; each tells its instance, or why there
-//! is none. It has the name of a worked case, `line_of_three` or `three_costs`, or numbers behind words: `size`, `flows` (10^-6),
-//! `distances` (10^-3), and where they are asked for `candidates`, `fixed` (10^-6), `listed`, `collect`, `trunk`, `deliver`
-//! (10^-3), and `no_self` at the end.
+//! The first line `instance` of a paragraph makes the instance for its lines. Each such line prints its instance, or
+//! why there is none. It has the name of a worked case, `line_of_three` or `three_costs`, or numbers after names:
+//! `size`, `flows` (10^-6) and `distances` (10^-3). Optional are `candidates`, `fixed` (10^-6), `listed`, `collect`,
+//! `trunk`, `deliver` (10^-3), and `no_self` at the end.
 //!
-//! Of an instance: `routes` (the costs of all routes), the branches `root`, `open node K`, `close node K`, `best_plan`,
-//! `plan`. Of some hubs of it, `hubs H ..`: `opening`, `set_cost`, `copy`, `assign`, `cut_rows`, and with `from I to J`
-//! `least_route` and `dual`. Of none: `refusals`, `change TEXT`, `change_certificate`, `copy_leaf` and `copy_numbers`.
+//! - For an instance: `routes` (the costs of all routes), the branches `root`, `open node K` and `close node K`,
+//!   `best_plan`, `plan`.
+//! - For some hubs, `hubs H ..`: `opening`, `set_cost`, `copy`, `assign`, `cut_rows`, and with `from I to J`
+//!   `least_route` and `dual`.
+//! - Without an instance: `refusals`, `change TEXT`, `change_certificate`, `copy_leaf` and `copy_numbers`.
 
 mod copies;
 mod instances;

@@ -1,4 +1,4 @@
-//! A line that is a call with its words, a colon and a text; how bytes are spelled in it; and what is printed of it.
+//! Lines of a call with its arguments, a colon and a text: their parse, their spelling of bytes, and their output.
 
 use percent_encoding::percent_decode;
 use std::alloc::{AllocError, Global};
@@ -24,7 +24,7 @@ impl From<ParseIntError> for Wrong {
     }
 }
 
-/// The call of a line with its words, and the text behind its colon.
+/// The call of a line with its arguments, and the text after its colon.
 pub fn call_and_text(line: &str) -> (&str, &str) {
     match line.split_once(':') {
         Some((call, text)) => (call, text.strip_prefix(' ').unwrap_or(text)),
@@ -32,14 +32,14 @@ pub fn call_and_text(line: &str) -> (&str, &str) {
     }
 }
 
-/// The bytes of a text, in which `%` and two hexadecimal digits stand for any byte.
+/// The bytes of a text, in which `%` and two hexadecimal digits spell any byte.
 pub fn bytes_of(alloc: Global, text: &str) -> Result<Vec<u8>, AllocError> {
     let mut bytes = Vec::new(alloc);
     percent_decode(text.as_bytes()).append_to(&mut bytes)?;
     Ok(bytes)
 }
 
-/// The numbers of a word, which commas separate.
+/// The numbers of a word, separated by commas.
 pub fn comma_list<N>(alloc: Global, word: &str) -> Result<Vec<N>, Wrong>
 where
     N: FromStr<Err = ParseIntError> + Drop,
@@ -51,8 +51,8 @@ where
     Ok(numbers)
 }
 
-/// What is printed of a line: the line, and behind it what its call answers. Of an empty line that is nothing, and of one that
-/// begins with `#` the line alone.
+/// The output for a line: the line, followed by the result of its call. An empty line has none, and a line that begins
+/// with `#` is printed alone.
 pub fn told(
     alloc: Global,
     line: &str,

@@ -1,12 +1,12 @@
-//! Instances by their numbers in order.
+//! Instances from numbers in a fixed order.
 
 ghost use Rattle.std.specs.Prelude.{◌≡◌, None, IfOk, IfSome};
 
 use hub_model::{Factors, Instance, MOST_FACTOR, Nodes, Parts, Terms, is_cost_list, is_node_list};
 use std::alloc::{AllocError, Global};
 
-/// The instance of the numbers between slashes: factors in 10^-3, candidates, flows, distances and fixed costs, and perhaps
-/// the number of hubs that its file lists; if it is one.
+/// The instance of the numbers between slashes: factors in 10^-3, candidates, flows, distances, fixed costs, and
+/// optionally the number of hubs that its file lists. `None` where they are no instance.
 pub fn instance_of_fields(alloc: Global, text: &str) -> Result<Option<Instance>, AllocError> {
     let fields: Vec<&str> = text.split(" / ").collect(alloc)?;
     match fields.as_slice() {
@@ -101,7 +101,7 @@ fn with_candidates(candidates: Nodes) -> Terms
     }
 }
 
-/// The nodes that the words name; a word that is no number is the greatest number.
+/// The nodes that the words name. A word that is no number counts as the greatest number.
 pub fn nodes(alloc: Global, text: &str) -> Result<Vec<u32>, AllocError> {
     let mut nodes = Vec::new(alloc);
     for word in text.split_whitespace() {

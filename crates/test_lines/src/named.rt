@@ -1,4 +1,4 @@
-//! Instances by the numbers behind their names.
+//! Instances from numbers that follow their names.
 
 ghost use Rattle.std.specs.Prelude.{◌≡◌, ◌*◌, ◌^◌, pos, ◌≤ℤ◌, None, IfOk, IfSome};
 
@@ -20,9 +20,9 @@ const MOST_FIXED: u64 = 1_000_000_000_000_000_000;
 // The greatest length that options give, in 10^-3.
 const MOST_LONGEST: u64 = 30_000_000_000;
 
-/// The instance of the numbers that a line has behind `size`, `flows` and `distances`, all as a file's parts have them, and
-/// perhaps behind `listed`, `collect`, `trunk`, `deliver`, `fixed`, `longest` and `candidates`. A line that ends with `no_self` leaves out
-/// the flow of a node to itself.
+/// The instance of the numbers that follow their names in a line. `size`, `flows` and `distances` are as in the parts
+/// of a file. `listed`, `collect`, `trunk`, `deliver`, `fixed`, `longest` and `candidates` are optional. A line that
+/// ends with `no_self` leaves out the flow of a node to itself.
 pub fn named_instance(alloc: Global, line: &str) -> Result<Instance, NoInstance> {
     let terms = terms(alloc, line)?;
     built(alloc, &terms, line)

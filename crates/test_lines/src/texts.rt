@@ -1,4 +1,4 @@
-//! The texts of instance files, and texts with a part replaced.
+//! The texts of instance files, and replacement of a part of a text.
 
 ghost use Rattle.std.specs.Prelude.{IfOk, string_bytes};
 ghost use Rattle.test_lines.specs.Changes.{IsChanged};
@@ -11,7 +11,7 @@ pub const ONE_NODE_FILE: &str = "1 0 0";
 /// The file of two nodes, in the matrix layout.
 pub const TWO_NODES_FILE: &str = "2 0 1 1 0 0 10 10 0";
 
-/// The text with the first such part replaced, or as it is where it has no such part.
+/// The text with the first occurrence of `old` replaced by `new`, or unchanged where there is none.
 pub fn changed(alloc: Global, text: &str, old: &str, new: &str) -> Result<String, AllocError>
     ensures { IfOk result (λ changed. IsChanged text.now old.now new.now (string_bytes changed)) }
 {

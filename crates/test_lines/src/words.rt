@@ -1,9 +1,9 @@
-//! What stands on a line behind a name. A name is given with the blanks around it.
+//! The parts of a line that follow a name. A name is given with the blanks around it.
 
 use std::alloc::{AllocError, Global};
 use std::str::FromStr;
 
-/// The numbers behind this name, up to the next word that is none.
+/// The numbers after this name, up to the next word that is no number.
 pub fn list<N: FromStr + Drop>(alloc: Global, line: &str, name: &str) -> Result<Vec<N>, AllocError>
 where
     N::Err: Drop,
@@ -18,12 +18,12 @@ where
     Ok(list)
 }
 
-/// The number behind this name.
+/// The number after this name, if there is one.
 pub fn number(line: &str, name: &str) -> Option<u64> {
     first(behind(line, name)).parse().ok()
 }
 
-/// The node behind this name, or 0 where there is none.
+/// The node after this name, or 0 where there is none.
 pub fn node(line: &str, name: &str) -> u32 {
     first(behind(line, name)).parse().unwrap_or(0)
 }
@@ -33,7 +33,7 @@ pub fn first(line: &str) -> &str {
     line.split_whitespace().next().unwrap_or("")
 }
 
-/// The line behind this name, if it has it.
+/// The rest of the line after this name, if it has the name.
 pub fn behind<'a>(line: &'a str, name: &str) -> &'a str {
     match line.split_once(name) {
         Some((_, rest)) => rest,

@@ -1,4 +1,4 @@
-//! What a hub set costs, with the route of each commodity.
+//! The cost of a hub set, with the route of each commodity.
 
 ghost use Rattle.std.specs.Prelude.{◌≡◌, IfOk, pos};
 ghost use Rattle.hub_spec.specs.Plans.{IsHubSet, IsSetCost, plan_cost};
@@ -8,7 +8,7 @@ ghost use Rattle.hub_model.specs.Assignments.{AreLeastRoutes, plan_of};
 use hub_model::{HubSet, Instance, least_route, signed};
 use std::alloc::{AllocError, Global};
 
-/// What a hub set costs, in 10^-12, and for each commodity in order the first and the last hub of its route.
+/// The cost of a hub set, in 10^-12, and for each commodity in order the first and last hub of its route.
 #[derive(Debug, Drop)]
 pub struct Assignment {
     pub cost: i128,
@@ -51,7 +51,7 @@ pub(crate) fn assign_to(
     })
 }
 
-/// The least cost of a plan with just these hubs.
+/// The least cost of a plan with exactly these hubs, in 10^-12.
 pub fn set_cost(instance: &Instance, hubs: &[u32]) -> u128
     requires { IsHubSet instance.now hubs.now }
     ensures { IsSetCost instance.now hubs.now result }

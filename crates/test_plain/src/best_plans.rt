@@ -1,4 +1,4 @@
-//! An optimal plan, by trying every set of candidates.
+//! An optimal plan, by enumeration of all sets of candidates.
 
 ghost use Rattle.std.specs.Prelude.{◌≡◌, ℕ, ◌≤◌, [], ◌∷◌, ◌++◌, length, IfOk, IfSome};
 ghost use Rattle.hub_spec.specs.Problem.{IsProblem};
@@ -11,7 +11,8 @@ use crate::plans::is_hub_set;
 use hub_model::{Instance, Plan, has_wanted, plan_cost};
 use std::alloc::{AllocError, Global};
 
-/// An optimal plan, or none where there is no plan, or none with the number of hubs that is wanted.
+/// An optimal plan. `None` where no plan exists with the wanted number of hubs, or with any number where none is
+/// wanted.
 pub fn best_plan(alloc: Global, instance: &Instance) -> Result<Option<Plan>, AllocError>
     ensures { IfOk result (λ best. IsBest instance.now best) }
 {

@@ -10,8 +10,9 @@ use crate::ways::cost_of_edge;
 use hub_model::{Dual, HubSet, Instance, cost_of_way, least_route, listed_dual};
 use std::alloc::{AllocError, Global};
 
-/// The minimal dual of the commodity from `i` to `j`: its price is what its least route through the hubs costs, and
-/// each candidate of the order, all candidates outside the hubs, has in its turn the least value that it may have.
+/// The minimal dual of the commodity from `i` to `j`. Its price is the cost of its least route through the hubs. Each
+/// candidate of the order, one after another, gets the least value that is feasible. The order has all candidates
+/// outside the hubs.
 pub fn minimal_dual(
     alloc: Global,
     instance: &Instance,

@@ -1,4 +1,4 @@
-//! What is a plan of an instance.
+//! Which plans are plans of an instance.
 
 ghost use Rattle.std.specs.Prelude.{◌<◌, ◌↔◌, IsTrue, All};
 ghost use Rattle.std.specs.List.{AllZip};
@@ -8,15 +8,15 @@ ghost use Rattle.hub_spec.specs.Plans.{IsHubSet, IsRoute, IsPlan};
 use crate::serving::lacking;
 use hub_model::{Instance, Plan, is_among, is_candidate_set};
 
-/// Tells whether this is a plan of the instance, be its hubs as many as are wanted or not.
+/// Tells whether this is a plan of the instance, whatever its number of hubs.
 pub fn is_plan(instance: &Instance, plan: &Plan) -> bool
     ensures { IsTrue result ↔ IsPlan instance.now plan.now }
 {
     is_hub_set(instance, plan.hubs()) && are_routes(instance, plan.hubs(), plan.routes())
 }
 
-/// Tells whether these are hubs of the instance: candidates in ascending order, at least one, and no commodity lacks a
-/// route through them.
+/// Tells whether this is a hub set of the instance: candidates, ascending, at least one, and feasible for every
+/// commodity.
 pub fn is_hub_set(instance: &Instance, hubs: &[u32]) -> bool
     ensures { IsTrue result ↔ IsHubSet instance.now hubs.now }
 {

@@ -1,4 +1,4 @@
-//! The commodities that hubs lack: those that no route through them is allowed for.
+//! The commodities for which hubs are infeasible: those without an allowed route through them.
 
 ghost use Rattle.std.specs.Prelude.{◌≡◌, ◌<◌, All};
 ghost use Rattle.std.specs.List.{list_any};
@@ -7,8 +7,7 @@ ghost use Rattle.hub_spec.specs.Lacking.{serves, lacking};
 
 use hub_model::Instance;
 
-/// The first commodity that has no route through these hubs, if there is one: the node that it comes from and the one
-/// that it goes to.
+/// Origin and destination of the first commodity that has no allowed route through these hubs, if there is one.
 pub fn lacking(instance: &Instance, hubs: &[u32]) -> Option<(u32, u32)>
     requires { All (λ k. k < instance.now.size) hubs.now }
     ensures { result ≡ lacking instance.now hubs.now }
@@ -24,7 +23,7 @@ pub fn lacking(instance: &Instance, hubs: &[u32]) -> Option<(u32, u32)>
     None
 }
 
-/// Tells whether the commodity from `i` to `j` has a route through these hubs.
+/// Tells whether the commodity from `i` to `j` has an allowed route through these hubs.
 pub fn serves(instance: &Instance, hubs: &[u32], i: u32, j: u32) -> bool
     requires hubs { All (λ k. k < instance.now.size) hubs.now }
     requires from { i < instance.now.size }

@@ -1,19 +1,21 @@
-//! Whole runs over memory, a case a line of standard input.
+//! Cases of whole runs over memory, each a line of standard input.
 //!
-//! Of `hub_top` what the cases of the built program leave open: that reads of each length change nothing and each call
-//! of the shelf that fails is told, that what `optimize` writes is checked, and that workers pass the gate.
+//! They show what the cases of the built program leave open of `hub_top`. Reads of any length give the same results,
+//! and each failing call of the shelf is reported. What `optimize` writes is checked. Workers pass the gate.
 //!
 //! The shelf holds the files `f` and `g`. A line is one of these:
 //!
 //! - `# ..`: printed as it is
 //! - `f TEXT`: the file `f` is this text from now on
-//! - `run WORD ..`: the number of the status, and what is put on out and err
-//! - `keep WORD ..`: the number of the status; the file `g` is what was put on out from now on
-//! - `hold WORD ..`: the same of the file `f`
-//! - `reads WORD ..`: how many runs differ, of those whose reads give at most 1 byte, 2 bytes and so on up to more than the longest file has
-//! - `failing WORD ..`: how many calls of the shelf a run makes, with reads of at most ten bytes, and how many of
-//!   them are told where they fail
-//! - `counted WORD ..`: the number of the status, the lines of out with size, cost, bound, cuts and nodes, how often each of the first 51 blocks passed the gate, and what else did
+//! - `run WORD ..`: the number of the status, and the output on out and err
+//! - `keep WORD ..`: the number of the status; the file `g` is the output on out from now on
+//! - `hold WORD ..`: the number of the status; the file `f` is the output on out from now on
+//! - `reads WORD ..`: how many runs differ, of those whose reads give at most 1 byte, 2 bytes and so on up to more than
+//!   the longest file has
+//! - `failing WORD ..`: how many calls of the shelf a run makes, with reads of at most ten bytes, and how many of them
+//!   are reported where they fail
+//! - `counted WORD ..`: the number of the status, and the lines of out with size, cost, bound, cuts and nodes. Then how
+//!   often each of the first 51 blocks passed the gate, and what else did
 //! - `numbers`: the numbers of all statuses
 
 use crate::counting::counted;

@@ -1,4 +1,4 @@
-//! Runs whose workers are counted.
+//! Runs that count the blocks of their workers.
 
 use crate::folder::Folder;
 use crate::runs::{Faults, run_over};

@@ -1,4 +1,4 @@
-//! What may fail beside a run, seen to be told.
+//! Faults beside a run, and the test that each is reported.
 
 use crate::folder::Folder;
 use crate::runs::{Faults, Ran, run_over};
@@ -8,7 +8,7 @@ use std::alloc::{AllocError, Global};
 use std::thread::Threads;
 use thiserror::Error;
 
-/// Why what a run ends with is not as it should be, or was not seen.
+/// Why the end of a run is wrong, or could not be observed.
 #[derive(Debug, Drop, Error)]
 pub enum Wrong {
     #[error("reads of at most {0} bytes change what the run ends with")]

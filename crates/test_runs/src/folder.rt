@@ -8,7 +8,7 @@ use std::io::{self, ErrorKind};
 /// The names that the files of cases have.
 const NAMES: [&str; 4] = ["f", "g", "k", "-x"];
 
-/// Files that have such names, with their bytes.
+/// The files of a case, with their bytes.
 #[derive(Drop)]
 pub struct Folder {
     files: Vec<(&'static str, Vec<u8>)>,

@@ -1,10 +1,13 @@
 //! Whole runs of the program over memory, with failing reads and writes.
 //!
-//! With words of its own it is the program `hub` over the files of this folder, on a shelf in memory: it ends as `hub`
-//! does, once it has seen that short reads change nothing, that each call of the shelf which fails is the last one and is
-//! told with out left empty, and that each put which fails is the last one and ends the run, with a prefix of the text
-//! taken, however many bytes it still took. Else it ends with 99. With no words it runs the cases of standard input
-//! (`cases`).
+//! With arguments it is the program `hub` over the files of this folder, on a shelf in memory. It ends as `hub` does
+//! once these tests passed, and else with 99:
+//!
+//! - short reads change nothing;
+//! - each failing call of the shelf is the last one, and is reported, with out left empty;
+//! - each failing put is the last one and ends the run, with a prefix of the text taken, whatever it still took.
+//!
+//! Without arguments it runs the cases of standard input (`cases`).
 #![tactic(auto)]
 
 mod cases;

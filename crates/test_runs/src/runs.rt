@@ -11,7 +11,8 @@ const ROOM: usize = 100_000;
 
 const MUCH_ROOM: usize = 10_000_000;
 
-/// What a run ended with, what its two streams took, and how many calls of the shelf and puts failed.
+/// The end of a run: its status, the output of its two streams, and the number of failed calls of the shelf and failed
+/// puts.
 #[derive(Drop, PartialEq, Eq)]
 pub struct Ran {
     pub status: Status,
@@ -56,7 +57,7 @@ impl Ran {
 // The words of the lines with a number that is told of a long text.
 const NUMBERS: [&str; 5] = ["size", "cost", "bound", "cuts", "nodes"];
 
-/// What is to go wrong beside a run: which calls of the shelf fail, how few bytes its reads give, and which puts fail; and whether
+/// The faults beside a run: which calls of the shelf fail, how few bytes its reads give, which puts fail, and whether
 /// its text may be long.
 #[derive(Drop)]
 pub struct Faults {

@@ -1,26 +1,26 @@
-//! Cases of searches and of the texts of what they find.
+//! Cases of searches and of the texts of their findings.
 //!
-//! Of `hub_model` the fixed costs of an instance, of `search_steps` a leaf and the sums of cuts, of
-//! `branch_tree` whole searches, also begun again, and of `proof_text` the texts of what they found, also where a put fails.
-//! The other steps are taken by each search.
+//! They show fixed costs of an instance (`hub_model`), a leaf and the sums of cuts (`search_steps`), and whole
+//! searches, also with a warm start (`branch_tree`). They show the texts of findings, also where a put fails
+//! (`proof_text`). Each search takes the other steps.
 //!
 //! Nodes are counted from 0, and from 1 in certificates. A line is one of these:
 //!
 //! - `# ..`: printed as it is
-//! - `instance fixed .. candidates .. trunk .. flows .. distances ..`: the instance of the lines below, in whole numbers
-//!   row by row, but for the trunk's factor, which is in 10^-3
+//! - `instance fixed .. candidates .. trunk .. flows .. distances ..`: the instance for the lines below. Its numbers
+//!   are whole, row by row, but the trunk's factor is in 10^-3
 //! - `fixed`: the fixed costs of its nodes, in 10^-12
 //! - `leaf WEIGHT ..`: the leaf with these weights on the first cuts
 //! - `sums HUB .. by fixed .. candidates .. trunk .. flows .. distances ..`: the sums of the cut of these hubs, by a
 //!   separator that was made for another instance
-//! - `search NODES`: what the search finds with this most number of nodes, or `all`
-//! - `again NODES hubs HUB ..`: what the search finds that begins with these hubs and their Pareto-optimal cut, with what an optimal plan
-//!   costs
-//! - `text NODES`: the text of what it finds, in the first version
-//! - `second NODES`: the same in the second version
-//! - `together NODES`: the same by three workers
+//! - `search NODES`: the finding with this node limit, or without one for `all`
+//! - `again NODES hubs HUB ..`: the finding with a warm start from these hubs and their Pareto-optimal cut, and the
+//!   cost of an optimal plan
+//! - `text NODES`: the text of the finding, in the first version
+//! - `second NODES`: that text in the second version
+//! - `together NODES`: that text, made by three workers
 //! - `made NODES`: the text of the certificate that is made of it
-//! - `failing PUT TAKEN`: the text of what it finds, where the put of this number fails with so many bytes taken
+//! - `failing PUT TAKEN`: the text of the finding, where the put of this number fails with so many bytes taken
 #![tactic(auto)]
 
 mod instances;

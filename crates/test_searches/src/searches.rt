@@ -1,4 +1,4 @@
-//! What a search finds.
+//! The findings of searches.
 
 ghost use Rattle.std.specs.Prelude.{IfOk, IfSome};
 ghost use Rattle.hub_spec.specs.Plans.{IsHubSet};

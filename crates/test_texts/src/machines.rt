@@ -1,4 +1,4 @@
-//! Cases of `machine_io`: a file of the folder `data/` and one that is not there, read whole, and a stream that takes two
+//! Cases of `machine_io`: a file of the folder `data/` and a missing one, each read whole, and a stream that takes two
 //! bytes at a time and seven in all.
 
 use hub_io::{ReadEnd, Shelf, Sink, read_whole};

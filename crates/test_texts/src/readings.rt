@@ -1,20 +1,20 @@
-//! Instance files, made-up instances and the words of a command line: a case a line of standard input, printed back
-//! with what its call gave.
+//! Cases of instance files, made-up instances and command lines. Each case is a line of standard input, printed back
+//! with its result.
 //!
-//! A line is a call with its words, a colon, and a text, where the call takes one:
+//! A line is a call with its arguments, and, where the call takes a text, a colon and the text:
 //!
-//! - `reader READ READ..: FILE`, of `token_reader`: reads in turn, each `size`, `quantity/PLACES/LIMIT`,
+//! - `reader READ READ..: FILE`, of `token_reader`: consecutive reads, each `size`, `quantity/PLACES/LIMIT`,
 //!   `quantities/COUNT/PLACES/LIMIT`, `index/NODES`, `coordinate`, `ended` or `end`
-//! - `matrix ORDER DIVIDE: FILE`, `rows ORDER DIVIDE: FILE` and `costs NODES: FILE`, of `instance_cab`;
-//!   `equal-matrix NODES FLOW DISTANCE`, the file of that size in which all flows are equal, and all distances
+//! - `matrix ORDER DIVIDE: FILE`, `rows ORDER DIVIDE: FILE` and `costs NODES: FILE`, of `instance_cab`. The call
+//!   `equal-matrix NODES FLOW DISTANCE` reads a file of that size in which all flows are equal, and all distances
 //! - `ap TAIL DIVIDE: FILE`, of `instance_ap`
 //! - `distance DX DY DIVIDE` and `root VALUE`, of `fixed_distance`
 //! - `made-text SEED NODES`, of `hub_make`: the text, or of a long one its length, its checksum Adler-32 and its ends
 //! - `made-instance SEED NODES`, of `hub_make`, and `demo-lines ROOM NODES COST BOUND HUBS SEARCHED`, its lines, put on
-//!   a sink that has room for so many bytes
-//! - `words: WORD WORD..`, of `hub_words`: the command that the words are
+//!   a sink with a capacity of ROOM bytes
+//! - `words: WORD WORD..`, of `hub_words`: the command that the arguments are
 //!
-//! In files `%` and two hexadecimal digits stand for a byte. A line that begins with `#` is printed as it is.
+//! In files `%` and two hexadecimal digits spell a byte. A line that begins with `#` is printed as it is.
 
 mod demos;
 mod distances;

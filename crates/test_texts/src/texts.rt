@@ -1,27 +1,28 @@
-//! Texts, and the outside in memory: a case a line of standard input, printed back with what its call gave.
+//! Cases of texts, and of files and streams in memory. Each case is a line of standard input, printed back with its
+//! result.
 //!
-//! A line is a call with its words, a colon, and a text. It shows, of `dec_text`:
+//! A line is a call with its arguments, a colon, and a text. Calls of `dec_text`:
 //!
-//! - `decimal PLACES: TOKEN`, what `read_decimal` gives, and `count LEAST MOST: TEXT`, what `read_count` does
-//! - `tokens: BYTES`, the `Tokens` of a file with their places
-//! - `number: VALUE` and `fixed PLACES: VALUE`, what `put_number` and `put_fixed` put
-//! - `lines SINK: LINE|LINE..`, each line by `put_line`, and what the sink has then; `pieces SINK: LINE|LINE..`, the same
-//!   by `put_pieces`, through one buffer. A line is of words, each as it stands or `number=N`, `count=N` or `fixed=N`, the
-//!   last in 10^-6
+//! - `decimal PLACES: TOKEN`, the result of `read_decimal`, and `count LEAST MOST: TEXT`, that of `read_count`
+//! - `tokens: BYTES`, the `Tokens` of a file with their positions
+//! - `number: VALUE` and `fixed PLACES: VALUE`, the output of `put_number` and `put_fixed`
+//! - `lines SINK: LINE|LINE..`, each line by `put_line`, and the contents of the sink after it.
+//!   `pieces SINK: LINE|LINE..` uses `put_pieces` through one buffer. A line has words, each a text, or `number=N`,
+//!   `count=N` or `fixed=N`, the last in 10^-6
 //!
-//! And of `hub_io`:
+//! Calls of `hub_io`:
 //!
-//! - `sink SINK: PIECE PIECE..`, each put on a `MemSink`, and what it has taken then; `buffer SINK: PIECE PIECE..`, the
-//!   same through a `Buffer`, which is finished twice, but not used after a failure
-//! - `shelf: FILE.. CALL..`, `shelf fails CALLS: ..` and `shelf fails CALLS lengths LENGTHS: ..`, calls on a `MemShelf`
-//!   in turn: `begin:NAME`, `read:COUNT`, `whole:NAME:LIMIT` and `faults`. A file is `NAME=PIECE`.
-//! - `reads LIMIT LENGTHS: PIECE`, a file that `read_whole` reads, with each call of the shelf failing in turn, until
-//!   there is none of that number
-//! - `gate: WORKER BLOCK`, a pass of the `OpenGate`
+//! - `sink SINK: PIECE PIECE..`, each put on a `MemSink`, and the contents of the sink after it.
+//!   `buffer SINK: PIECE PIECE..` puts them through a `Buffer`, which is finished twice, but not used after a failure
+//! - `shelf: FILE.. CALL..`, `shelf fails CALLS: ..` and `shelf fails CALLS lengths LENGTHS: ..`, consecutive calls on
+//!   a `MemShelf`: `begin:NAME`, `read:COUNT`, `whole:NAME:LIMIT` and `faults`. A file is `NAME=PIECE`.
+//! - `reads LIMIT LENGTHS: PIECE`, a file that `read_whole` reads, once for each call of the shelf, with that call
+//!   failing
+//! - `gate: WORKER BLOCK`, a worker that passes the `OpenGate`
 //!
-//! A `SINK` is its room, or `ROOM fails CALL after TAKEN`, where the put of that number fails once so many bytes are
-//! taken. A `PIECE` is a text or `TEXT*COUNT`. In texts `%` and two hexadecimal digits stand for a byte. Lists have
-//! commas; calls count from 1, so a list 0 names none. A line that begins with `#` is printed as it is.
+//! A `SINK` is its capacity in bytes, or `ROOM fails CALL after TAKEN`, where the put of that number fails once so many
+//! bytes are taken. A `PIECE` is a text or `TEXT*COUNT`. In texts `%` and two hexadecimal digits spell a byte. Lists
+//! have commas. Calls count from 1, so a list 0 names none. A line that begins with `#` is printed as it is.
 
 mod pieces;
 mod reading;

@@ -1,4 +1,4 @@
-//! Seats of a board, and what was drawn when it is closed.
+//! Seats of a board, and the numbers drawn when it is closed.
 
 use claim_board::Board;
 use std::test::Fail;

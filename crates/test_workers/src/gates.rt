@@ -5,7 +5,8 @@ use std::sync::atomic::AtomicU64;
 use std::sync::atomic::Ordering::SeqCst;
 use std::thread;
 
-/// At its first block each of two workers waits until the other has drawn so many. There are at most four blocks.
+/// A gate at whose first block each of two workers waits until the other has drawn so many. There are at most four
+/// blocks.
 #[derive(Drop)]
 pub struct Watch {
     awaited: [u64; 2],
@@ -58,7 +59,7 @@ impl Gate for Watch {
     }
 }
 
-/// A gate that so many pass at once; behind them each of two workers waits until the other has come too.
+/// A gate that the first few pass at once. Then each of two workers waits until the other has come too.
 #[derive(Drop)]
 pub struct Meeting {
     at_once: u64,

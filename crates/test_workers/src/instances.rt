@@ -1,4 +1,4 @@
-//! Instances whose hubs cost nothing, and the set of the first node.
+//! Instances without fixed costs, and the set of the first node.
 
 ghost use Rattle.std.specs.Prelude.{◌≡◌, None, IfOk};
 ghost use Rattle.hub_spec.specs.Plans.{IsHubSet};

@@ -1,4 +1,4 @@
-//! Rounds of a search by two workers, and the turns of nodes.
+//! Rounds of a search by two workers, and the evaluations of nodes.
 
 ghost use Rattle.std.specs.Prelude.{◌≡◌, ◌≤◌, ◌^◌, None, List, length, All, IfOk};
 ghost use Rattle.hub_spec.specs.Problem.{IsProblem};

@@ -13,7 +13,7 @@ use hub_model::{InstanceFault, Numbers, Refusal, Wanted};
 use std::alloc::{AllocError, Global};
 use std::marker::Model;
 
-/// A file from its next token on, seen as what is unread of it.
+/// A cursor over the tokens of a file, seen as the unread rest.
 #[derive(Drop)]
 pub struct Reader<'a> {
     // The next token, which is looked ahead at, so that the end shows before it is read.
@@ -35,7 +35,7 @@ impl<'a> Model for Reader<'a> {
 }
 
 impl<'a> Reader<'a> {
-    /// A file of which nothing is read.
+    /// A cursor at the start of a file.
     pub fn over(bytes: &'a [u8]) -> Self
         ensures { result ≡ whole bytes.now }
     {
@@ -82,7 +82,7 @@ impl<'a> Reader<'a> {
         read_quantity(at, token, places, limit)
     }
 
-    /// Reads the next token as the number of one of n nodes, counted from 1.
+    /// Reads the next token as the number of a node, counted from 1 to `n`.
     #[tactic(auto, unfolding(crate::specs::Unread::fault_here, crate::specs::Unread::value_here))]
     pub fn index(&mut self, n: u32) -> Result<u32, InstanceFault>
         ensures fault { told result ≡ fault_here (an_index n) self.old }
@@ -130,7 +130,7 @@ impl<'a> Reader<'a> {
         Ok(Numbers::from_vec(items))
     }
 
-    /// Sees that no token is left.
+    /// Fails if a token is left.
     #[tactic(auto, unfolding(crate::specs::Unread::fault_here))]
     pub fn end(&self) -> Result<(), InstanceFault>
         ensures { told result ≡ fault_here nothing self.now }

@@ -1,4 +1,4 @@
-//! What is worked out of one origin.
+//! The duals of one origin.
 
 ghost use Rattle.std.specs.Prelude.{◌≡◌, ◌+◌, ◌*◌, ◌<◌, ◌≤◌, [], IfOk};
 ghost use Rattle.unit_duals.specs.Limits.{most_room};
@@ -12,10 +12,10 @@ use crate::turns::pull_values;
 use std::alloc::{AllocError, Global};
 use std::marker::Model;
 
-/// The duals of all commodities of one origin by unit of flow: a price for each destination, and for each place a row
-/// of values, one for each destination; with the room that was taken for them.
+/// The minimal duals of all commodities of one origin, per unit of flow. There is a price for each destination, and a
+/// row of values for each position of the order, with one value for each destination.
 ///
-/// A worker has its own, and works out one origin after another.
+/// The workspace is allocated once. A worker has its own, and computes one origin after another.
 #[derive(Drop)]
 pub struct UnitDuals {
     room: usize,
@@ -39,7 +39,7 @@ impl Model for UnitDuals {
 }
 
 impl UnitDuals {
-    /// Duals with room for this many destinations and this many stops, as yet of none.
+    /// An empty workspace for at most `room` destinations and at most `room` stops.
     pub fn new(alloc: Global, room: usize) -> Result<UnitDuals, AllocError>
         requires { room ≤ most_room }
         ensures { IfOk result (λ d. d ≡ record { room = room; prices = []; values = [] }) }
@@ -54,9 +54,9 @@ impl UnitDuals {
         })
     }
 
-    /// Works out the duals of the origin whose legs to the stops are `first`. It takes no memory.
+    /// Computes the duals of the origin whose legs to the stops are `first`. It allocates nothing.
     ///
-    /// Each price is the least length by hubs, and each place has, in its turn, the least value that is asked of it.
+    /// Each price is the least length through the hubs. Each position, in order, gets the least feasible value.
     pub fn values_from(&mut self, tables: &Tables, first: &[u64])
         requires some_hub { 1 ≤ tables.now.legs.hubs }
         requires size { tables.now.legs.size ≤ self.old.room }
@@ -92,7 +92,7 @@ impl UnitDuals {
         &self.prices
     }
 
-    /// The values, row by row: a row for each place, a value for each destination.
+    /// The values, row by row: a row for each position, a value for each destination.
     pub fn values(&self) -> &[u64]
         ensures { result.now ≡ self.now.values }
     {

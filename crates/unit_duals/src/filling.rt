@@ -1,4 +1,4 @@
-//! Tables that are worked out once for a cut.
+//! Tables that are computed once for a cut.
 
 ghost use Rattle.std.specs.Prelude.{◌≡◌, ◌*◌, ◌<◌, ◌≤◌, length, slice_index, vec_len, vec_capacity};
 ghost use Rattle.unit_duals.specs.Cells.{IsTable};

@@ -1,7 +1,7 @@
-//! The shortest routes by hubs alone.
+//! The shortest routes through hubs.
 //!
-//! Which last hub is the best hangs on the first hub and the destination alone. So it is found once for these two, and
-//! each route takes one pass over the first hubs.
+//! The best last hub depends only on the first hub and the destination. It is found once for these two, so each route
+//! takes one pass over the first hubs.
 
 ghost use Rattle.std.specs.Prelude.{◌≡◌, ◌+◌, ◌*◌, ◌<◌, ◌≤◌, length, IfOk};
 ghost use Rattle.unit_duals.specs.Limits.{most_leg, most_room};
@@ -14,7 +14,7 @@ use crate::filling::{copy, fit};
 use std::alloc::{AllocError, Global};
 use std::marker::Model;
 
-/// The first and the last hub of a route, as stops, and its length.
+/// The first and last hub of a route, as stops, and its length.
 #[derive(Clone, Copy, Debug, PartialEq, Eq)]
 pub struct HubRoute {
     pub first: usize,
@@ -29,8 +29,8 @@ struct Hop {
     length: u64,
 }
 
-/// The best last hub for each first hub and destination, seen as the legs that they were found in, and the room that
-/// was taken for them: so many destinations and so many stops there may be.
+/// The best last hub for each first hub and destination, seen as the legs from which it was found. The workspace is
+/// allocated once.
 #[derive(Drop)]
 pub struct Hops {
     room: usize,
@@ -56,7 +56,7 @@ impl Model for Hops {
 }
 
 impl Hops {
-    /// Hops with room for this many destinations and this many stops, as yet of none.
+    /// An empty workspace for at most `room` destinations and at most `room` stops.
     pub fn new(alloc: Global, room: usize) -> Result<Hops, AllocError>
         requires { room ≤ most_room }
         ensures { IfOk result (λ h. h ≡ record { room = room; legs = no_legs }) }
@@ -73,7 +73,7 @@ impl Hops {
         })
     }
 
-    /// Makes these the hops of the legs. It takes no memory.
+    /// Fills this for the legs. It allocates nothing.
     pub fn fill(&mut self, legs: &Legs)
         requires size { legs.now.size ≤ self.old.room }
         requires stops { stops legs.now ≤ self.old.room }
@@ -91,8 +91,8 @@ impl Hops {
         set_hops(legs, &mut self.lasts, &mut self.lengths);
     }
 
-    /// The shortest route by hubs from the origin whose legs to the stops are `first` to the destination `j`. Of those
-    /// that are as short it is the one with the earliest first hub, and then the earliest last hub.
+    /// The shortest route through hubs from the origin whose legs to the stops are `first` to destination `j`. Ties go
+    /// to the earliest first hub, then to the earliest last hub.
     pub fn route(&self, first: &[u64], j: usize) -> HubRoute
         requires some_hub { 1 ≤ self.now.legs.hubs }
         requires first { AreFirstLegs self.now.legs first.now }

@@ -1,6 +1,6 @@
 //! Comparisons of lengths as signed numbers.
 //!
-//! A processor's lanes compare signed numbers of 64 bits in one step, and unsigned ones in three.
+//! Vector instructions compare signed numbers of 64 bits in one step, and unsigned ones in three.
 
 ghost use Rattle.std.specs.Prelude.{◌≡◌, ◌-◌, ◌^◌, ◌<◌, max, min};
 

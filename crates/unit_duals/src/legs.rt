@@ -1,4 +1,4 @@
-//! The legs of routes, as they come in.
+//! The legs of routes, as the caller gives them.
 
 ghost use Rattle.std.specs.Prelude.{◌≡◌, ℕ, ◌+◌, ◌*◌, ◌<◌, ◌≤◌, length, slice_index, All};
 ghost use Rattle.unit_duals.specs.Cells.{cell};
@@ -6,9 +6,9 @@ ghost use Rattle.unit_duals.specs.Lengths.{UnitLegs, AreLegs, IsLegRow, stops, t
 
 use std::marker::Model;
 
-/// The legs of routes by unit of flow, in tables row by row.
+/// The legs of routes per unit of flow, in tables row by row.
 ///
-/// Stops are counted from 0: the places of an order come first, and then the hubs.
+/// Stops are counted from 0: first the positions of the order, then the hubs.
 #[derive(Drop)]
 pub struct Legs<'a> {
     size: usize,
@@ -29,8 +29,8 @@ impl<'a> Model for Legs<'a> {
 }
 
 impl<'a> Legs<'a> {
-    /// The legs from stop to stop (`trunk`) and from stop to destination (`last`), for this many destinations, places
-    /// and hubs.
+    /// The legs from stop to stop (`trunk`) and from stop to destination (`last`), for this many destinations,
+    /// positions of the order, and hubs.
     pub fn new(
         size: usize,
         count: usize,
@@ -58,7 +58,7 @@ impl<'a> Legs<'a> {
         self.size
     }
 
-    /// The number of places.
+    /// The number of positions of the order.
     pub fn count(&self) -> usize
         ensures value { result ≡ self.now.count }
         ensures legs { AreLegs self.now }

@@ -1,4 +1,4 @@
-//! The lengths of one origin: to the stops by a hub, and to the destinations by hubs.
+//! The lengths of one origin: to the stops through a hub, and to the destinations through hubs.
 
 ghost use Rattle.std.specs.Prelude.{◌≡◌, ℕ, ◌<◌, ◌≤◌, length, slice_index};
 ghost use Rattle.unit_duals.specs.Lengths.{AreFirstLegs, stops};

@@ -1,7 +1,7 @@
-//! Lengths lowered to the least by a hub.
+//! Lengths lowered to the least through a hub.
 //!
-//! A way whose first part alone is no shorter than each of the lengths lowers none of them. So the nearest hub comes
-//! first, and then of the others only those that are nearer than the greatest length which is left.
+//! A route whose first part alone is no shorter than each of the lengths lowers none of them. So the nearest hub comes
+//! first. Of the others only those follow that are nearer than the greatest length that is left.
 
 ghost use Rattle.std.specs.Prelude.{◌≡◌, ◌+◌, ◌^◌, ◌<◌, ◌≤◌, length, All};
 ghost use Rattle.unit_duals.specs.Lowered.{AreLoweredBy, AreLowered, EndAlike, AreRows};

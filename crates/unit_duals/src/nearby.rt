@@ -1,4 +1,4 @@
-//! For each place and each earlier place, the destinations that are near.
+//! For each position and each earlier position, the destinations that are near.
 
 ghost use Rattle.std.specs.Prelude.{◌≡◌, ℕ, ◌+◌, ◌*◌, ◌<◌, ◌≤◌, length, slice_index, slice_range, All, IfOk, vec_len};
 ghost use Rattle.std.specs.List.{SameBelow};

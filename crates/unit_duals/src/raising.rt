@@ -1,4 +1,4 @@
-//! Values raised to what is asked of them, along a list of destinations.
+//! Values raised to what feasibility requires, along a list of destinations.
 
 ghost use Rattle.std.specs.Prelude.{◌≡◌, ◌+◌, ◌-◌, ◌*◌, ◌<◌, ◌≤◌, length, slice_index, All};
 ghost use Rattle.unit_duals.specs.Limits.{most_leg};

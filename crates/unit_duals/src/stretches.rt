@@ -1,4 +1,4 @@
-//! Stretches of a list of lengths, worked out number by number.
+//! Stretches of a list of lengths, computed number by number.
 
 ghost use Rattle.std.specs.Prelude.{◌+◌, ◌^◌, ◌<◌, ◌≤◌, length, slice_index, min, All};
 ghost use Rattle.unit_duals.specs.Limits.{most_leg, most_length};

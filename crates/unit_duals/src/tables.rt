@@ -1,4 +1,4 @@
-//! What is worked out once for a cut.
+//! The tables that a cut needs once.
 
 ghost use Rattle.std.specs.Prelude.{◌≡◌, ℕ, ◌+◌, ◌*◌, ◌<◌, ◌≤◌, length, slice_index, IfOk, vec_len, vec_capacity};
 ghost use Rattle.unit_duals.specs.Limits.{most_room};
@@ -14,10 +14,9 @@ use crate::nearby::NearLists;
 use std::alloc::{AllocError, Global};
 use std::marker::Model;
 
-/// The tables of a cut, seen as the legs that they are made of, and the room that was taken for them: so many
-/// destinations and so many stops they may have.
+/// The tables of a cut, seen as the legs from which they are made. The workspace is allocated once.
 ///
-/// They are only read while the values of origins are worked out, so several workers may share them.
+/// They are only read while the duals of origins are computed, so several workers may share them.
 #[derive(Drop)]
 pub struct Tables {
     room: usize,
@@ -47,7 +46,7 @@ impl Model for Tables {
 }
 
 impl Tables {
-    /// Tables with room for this many destinations and this many stops, as yet of none.
+    /// An empty workspace for at most `room` destinations and at most `room` stops.
     pub fn new(alloc: Global, room: usize) -> Result<Tables, AllocError>
         requires { room ≤ most_room }
         ensures { IfOk result (λ t. t ≡ record { room = room; legs = no_legs }) }
@@ -68,7 +67,7 @@ impl Tables {
         })
     }
 
-    /// Makes these the tables of the legs. It takes no memory.
+    /// Fills the tables for the legs. It allocates nothing.
     pub fn fill(&mut self, legs: &Legs)
         requires size { legs.now.size ≤ self.old.room }
         requires stops { stops legs.now ≤ self.old.room }
@@ -104,7 +103,7 @@ impl Tables {
         self.size
     }
 
-    /// The number of places.
+    /// The number of positions of the order.
     pub fn count(&self) -> usize
         ensures value { result ≡ self.now.legs.count }
         ensures legs { AreLegs self.now.legs }

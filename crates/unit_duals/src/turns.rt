@@ -1,7 +1,7 @@
-//! The values of all places for all destinations of one origin, each place in its turn.
+//! The values of all positions for all destinations of one origin, one position after another.
 //!
-//! Values stand row by row, a row for each place. Slack and rest have rows too, for the places whose turn is over:
-//! what the price leaves beside a value and its last leg, and beside the value alone.
+//! Values are row by row, one row for each position. Slack and rest have rows too, for the positions that are done. The
+//! slack is the price less a value and its last leg, and the rest is the price less the value.
 
 ghost use Rattle.std.specs.Prelude.{◌≡◌, ℕ, ◌+◌, ◌-◌, ◌*◌, ◌<◌, ◌≤◌, length, slice_index, All};
 ghost use Rattle.unit_duals.specs.Cells.{cell};

@@ -1,6 +1,6 @@
-//! The price of a commodity where the length of routes is limited: over the routes that it may go by.
+//! The price of a commodity over its allowed routes, where the length of routes is limited.
 //!
-//! A route is looked at only where it would lower the least so far, so that few are measured.
+//! Only a route that would lower the least price so far is measured.
 
 ghost use Rattle.std.specs.Prelude.{◌≡◌, ℕ, ◌+◌, ◌<◌, ◌≤◌, length, slice_index, All};
 ghost use Rattle.hub_spec.specs.Problem.{is_allowed};

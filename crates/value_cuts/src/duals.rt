@@ -1,4 +1,4 @@
-//! The duals of any values, lent one by one.
+//! The duals of any dual values, one by one.
 
 ghost use Rattle.std.specs.Prelude.{◌≡◌, ◌+◌, ◌*◌, ◌<◌, ◌≤◌, [], pos, length, IfOk, vec_capacity};
 ghost use Rattle.hub_spec.specs.Limits.{most_flow};
@@ -13,7 +13,7 @@ use hub_model::{list_value, signed};
 use std::alloc::{AllocError, Global};
 use std::marker::Model;
 
-/// The dual that was made last, as a certificate lists it, in room for so many values.
+/// A workspace for one dual: the last that was made, as a certificate lists it.
 #[derive(Drop)]
 pub struct DualScratch {
     room: usize,
@@ -32,7 +32,7 @@ impl Model for DualScratch {
 }
 
 impl DualScratch {
-    /// A scratch for the instance of these tables, whose dual is as yet 0 without values.
+    /// A workspace for the instance of these tables, with the zero dual.
     pub fn new(alloc: Global, tables: &CandidateLegs) -> Result<DualScratch, AllocError>
         ensures { IfOk result (λ s.
             s ≡ record { room = length tables.now.candidates; dual = record { a = 0; u = [] } }) }
@@ -45,8 +45,8 @@ impl DualScratch {
         })
     }
 
-    /// Makes the dual of the commodity from `i` to `j` by its row of values in the unit and its price by unit of flow.
-    /// It takes no memory.
+    /// Makes the dual of the commodity from `i` to `j`, from its row of values in the unit and its price per unit of
+    /// flow. It allocates nothing.
     pub fn make(
         &mut self,
         tables: &CandidateLegs,
@@ -69,7 +69,8 @@ impl DualScratch {
         list_values(tables, flow, unit, row, &mut self.u);
     }
 
-    /// The price of the dual that was made last, and its nodes with their values, ascending, each value above 0.
+    /// The dual that was made last: its price, and its nodes with their values, ascending, each above 0. All are in
+    /// 10^-12.
     pub fn dual(&self) -> (i128, &[(u32, i128)])
         ensures price { result.0 ≡ pos self.now.dual.a }
         ensures values { result.1.now ≡ signed_values self.now.dual.u }

@@ -1,9 +1,8 @@
-//! The price of a commodity, lowered to what its values allow on allowed routes.
+//! The price of a commodity, lowered to what its values permit on allowed routes.
 //!
-//! A route by way of two candidates is a first end, a leg of trunk and a last end, where an end is a leg with the value
-//! of its candidate. So a price is found over the first ends, each time with the least of the trunk legs and the last
-//! ends together, where the first end leaves room below the least so far. Where the length of routes is limited,
-//! `allowed` goes over the allowed ones alone.
+//! A route through two candidates has a first end, a trunk leg and a last end. An end is a leg plus the value of its
+//! candidate. A price is found over the first ends, each with the least sum of trunk leg and last end. First ends that
+//! cannot lower the price are skipped. With a length limit, `allowed` goes over the allowed routes alone.
 
 ghost use Rattle.std.specs.Prelude.{◌≡◌, ℕ, ◌+◌, ◌*◌, ◌<◌, ◌≤◌, min, None, length, slice_index, All, IfOk};
 ghost use Rattle.hub_spec.specs.Problem.{IsProblem};
@@ -21,8 +20,7 @@ use crate::{CandidateLegs, Values};
 use std::alloc::{AllocError, Global};
 use std::marker::Model;
 
-/// What a price is found in: the first and the last ends of routes, with room for so many candidates. A worker has its
-/// own.
+/// A workspace for prices: the first and last ends of routes. A worker has its own.
 #[derive(Drop)]
 pub struct PriceScratch {
     first: Vec<u64>,
@@ -40,7 +38,7 @@ impl Model for PriceScratch {
 }
 
 impl PriceScratch {
-    /// A scratch for the instance of these tables.
+    /// A workspace for the instance of these tables.
     pub fn new(alloc: Global, tables: &CandidateLegs) -> Result<PriceScratch, AllocError>
         ensures { IfOk result (λ s. s ≡ length tables.now.candidates) }
     {
@@ -52,11 +50,11 @@ impl PriceScratch {
     }
 }
 
-/// The price of the commodity from `i` to `j` by unit of flow that the values of the row allow, in 10^-6: the least of
-/// the ceiling, of each single hub and of each ordered pair of hubs that it may go by, with their values. It takes no
-/// memory.
+/// The greatest feasible price of the commodity from `i` to `j` for the values of the row, up to the ceiling, per unit
+/// of flow, in 10^-6. It is the least of the ceiling and of the lengths of all allowed routes with the values of their
+/// hubs.
 ///
-/// The row lists a value for each place, in the unit.
+/// The row has a value for each candidate, in the unit. It allocates nothing.
 pub fn price(
     tables: &CandidateLegs,
     i: u32,
@@ -83,7 +81,7 @@ pub fn price(
     )
 }
 
-/// Sets the prices of all commodities, row by row, an origin's in each. It takes no memory.
+/// Sets the prices of all commodities, row by row, one row for each origin. It allocates nothing.
 pub fn set_prices(
     tables: &CandidateLegs,
     values: &Values,
@@ -104,8 +102,7 @@ pub fn set_prices(
     }
 }
 
-/// Sets the prices of all commodities from `i`, one for each destination, as a worker does for its origins. It takes no
-/// memory.
+/// Sets the prices of all commodities from `i`, one for each destination. It allocates nothing.
 pub fn set_origin_prices(
     tables: &CandidateLegs,
     values: &Values,

@@ -15,11 +15,11 @@ use std::thread::Threads;
 // The least number of values at which workers are worth their start: about those of 64 nodes that are all candidates.
 const LEAST_SHARED: usize = 1 << 18;
 
-/// Sets the price of each commodity by its values, row by row, an origin's in each, worked out by so many workers, 1 to
-/// 64, an origin at a time, each in a thread of its own where one can be made.
+/// Sets the price of each commodity from its values, row by row, one row for each origin, by 1 to 64 workers. Each
+/// worker takes one origin at a time, in a thread of its own where one can be made.
 ///
-/// The prices are the same for every number of workers and every schedule. By one worker it takes no memory. Where the
-/// values are few it is one worker, since a thread's start and end can take longer than all of the work.
+/// The prices depend neither on the number of workers nor on their schedule. One worker allocates nothing. Few values
+/// are left to one worker, since starting threads would take longer than the work.
 pub fn set_prices_by_workers<R: Threads + Sync>(
     rt: &R,
     alloc: Global,

@@ -1,4 +1,4 @@
-//! What `resolve` begins with, from an older certificate.
+//! The warm start of `resolve`, from an older certificate.
 
 ghost use Rattle.std.specs.Prelude.{◌≡◌};
 ghost use Rattle.hub_spec.specs.Problem.{Problem};
@@ -9,7 +9,7 @@ ghost use Rattle.search_core.specs.Starts.{start_seen};
 use cert_format::Certificate;
 use search_core::Start;
 
-/// What a search begins again with: the cuts of an older certificate in order, and its hubs. No dual is copied.
+/// The warm start of a search: the cuts of an older certificate in order, and its hubs. No dual is copied.
 pub fn start_of(certificate: Certificate) -> Start
     ensures start { start_seen result ≡ start_of certificate.proof }
     ensures is_start { (p : Problem) → HasCutsOf p certificate.proof → IsStartOf p (start_seen result) }

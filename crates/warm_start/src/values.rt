@@ -1,12 +1,14 @@
-//! Values of the candidates from a certificate's cuts.
+//! Dual values of the candidates from a certificate's cuts.
 
 use cut_model::{StatedCut, StatedDual};
 use hub_model::Instance;
 use std::alloc::{AllocError, Global};
 
-/// The values that advice may begin with: a row for each commodity in order, with a value for each candidate, in this unit of
-/// 10^-6 by unit of flow. They are those of the cut that bounds the instance best at the root, as far as small numbers hold
-/// them; where there is no cut none are listed.
+/// Dual values for a heuristic to begin with, per unit of flow, in multiples of `unit` times 10^-6. There is a row for
+/// each commodity in order, with a value for each candidate.
+///
+/// They are those of the cut with the greatest bound at the root, as far as they fit 32 bits. Without cuts the list is
+/// empty.
 pub fn first_values(
     alloc: Global,
     instance: &Instance,

@@ -1,8 +1,8 @@
-//! What lines name: an instance, and texts. The lines that name them are kept as they are.
+//! The instance and the texts that lines name. The lines that name them are stored unchanged.
 
 use std::alloc::{AllocError, Global};
 
-/// Whether the line names something.
+/// Tells whether the line names something.
 pub fn is_name(line: &str) -> bool {
     line.starts_with("instance ") || line.starts_with("text ")
 }
@@ -18,7 +18,7 @@ pub fn instance_in(kept: &str) -> &str {
     last
 }
 
-/// The text of that name, with the changes behind it.
+/// The text of that name, with the changes after it.
 pub fn text_in(alloc: Global, kept: &str, spelled: &str) -> Result<String, AllocError> {
     let (name, changes) = spelled.split_once(" / ").unwrap_or((spelled, ""));
     let mut text = joined(alloc, kept, name)?;

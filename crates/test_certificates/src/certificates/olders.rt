@@ -1,4 +1,4 @@
-//! Older certificates, whose cuts or values a search may begin with.
+//! Older certificates, from whose cuts or values a search may begin.
 
 use super::names::text_in;
 use cert_checker::{Older, check_cuts, read_older, read_sized};
@@ -9,7 +9,8 @@ use std::io;
 use std::thread::Threads;
 use warm_start::first_values;
 
-/// What is said of the text by its cuts, and by its size alone; and where it is a certificate, what fails of its cuts.
+/// The verdict on the text as an older certificate, by its cuts, and by its size alone. For a certificate, also the
+/// first fault of its cuts.
 pub fn older<R: Print + Threads + Sync>(
     rt: &R,
     alloc: Global,
@@ -61,7 +62,7 @@ fn tell(rt: &impl Print, of: &str, older: &Older) -> io::Result<()> {
     println!(rt; "{of}: {word} in line {line}")
 }
 
-/// The values of the candidates by the cuts of the text, in a unit.
+/// The dual values of the candidates from the cuts of the text, in a unit.
 pub fn values(
     rt: &impl Print,
     alloc: Global,

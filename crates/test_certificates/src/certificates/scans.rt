@@ -1,9 +1,9 @@
-//! Texts scanned.
+//! Scans of texts.
 
 use cert_scan::{Fault, Item, Scan};
 use std::io;
 
-/// The items of the text, a line each, and the fault at its end.
+/// The items of the text, one a line, and the fault at its end.
 pub fn items(rt: &impl Print, text: &str) -> io::Result<()> {
     let mut scan = Scan::new();
     for byte in text.as_bytes() {

@@ -1,4 +1,4 @@
-//! Certificates that a shelf holds.
+//! Certificates on a shelf.
 
 use super::checks::tell;
 use super::names::{text_in, two_numbers};
@@ -11,8 +11,8 @@ use std::io;
 // How a check ends, and how often the shelf failed in it.
 type End = (Result<Ending, NoEnding>, u64);
 
-/// Checks of the text by reads of at most 1 byte, of at most 2, and so on up to all: how many don't end as that by
-/// reads of any length, or count a fault.
+/// Checks of the text by reads of at most 1 byte, at most 2, and so on up to all. It prints how many end otherwise than
+/// by reads of any length, or count a fault.
 pub fn by_reads(rt: &impl Print, alloc: Global, instance: &Instance, text: &str) -> io::Result<()> {
     let bytes = text.as_bytes();
     let whole = end(alloc, instance, bytes, 0, bytes.len())?;
@@ -37,7 +37,7 @@ fn others(
     Ok(others)
 }
 
-/// Checks of the text in which each call fails in turn, and the first in which none does.
+/// Checks of the text, each with one call failing, up to the first check in which none fails.
 pub fn failing(
     rt: &impl Print,
     alloc: Global,
@@ -106,7 +106,7 @@ fn tell_end(rt: &impl Print, end: &End) -> io::Result<()> {
     }
 }
 
-/// The check under a name, and then that under the name of the text.
+/// The check of the file of a name, and then that of the file with the text.
 pub fn named(
     rt: &impl Print,
     alloc: Global,

@@ -17,7 +17,8 @@ pub fn ended(alloc: Global, instance: &Instance, pieces: &[&[u8]]) -> Result<End
     Ok(stream.finish())
 }
 
-/// Checks of the text cut in two at each place: how that of the whole ends, and how many end otherwise.
+/// Checks of the text cut in two at each position: the end of the whole check, and the number of checks that end
+/// otherwise.
 pub fn cut_anywhere(
     rt: &impl Print,
     alloc: Global,
@@ -47,7 +48,7 @@ fn others(
     Ok(others)
 }
 
-/// What is told once all items of the text were taken.
+/// The verdict once all items of the text were taken.
 pub fn taken(rt: &impl Print, alloc: Global, instance: &Instance, text: &str) -> io::Result<()> {
     let checks = take_items(alloc, instance, text.as_bytes())?;
     let cost = checks.cost();

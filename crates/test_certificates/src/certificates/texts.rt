@@ -7,7 +7,7 @@ use cert_format::{Certificate, read_cert, write_cert};
 use std::alloc::Global;
 use std::io;
 
-/// The fault that a scan of the text tells, and that of a reading.
+/// The fault of a scan of the text, and that of a reading.
 pub fn faults(rt: &impl Print, alloc: Global, text: &str) -> io::Result<()> {
     tell(rt, fault(text))?;
     match read_cert(alloc, text.as_bytes()) {
@@ -16,7 +16,7 @@ pub fn faults(rt: &impl Print, alloc: Global, text: &str) -> io::Result<()> {
     }
 }
 
-/// How much of the text is put again, once it is read.
+/// How much of the text is written again, once it is read.
 pub fn write(rt: &impl Print, alloc: Global, kept: &str, rest: &str) -> io::Result<()> {
     let (call, count, rest) = two_numbers(rest);
     let text = text_in(alloc, kept, rest)?;

@@ -11,8 +11,8 @@ use std::io;
 // A number above all prices and values.
 const ABOVE_ALL: u128 = 1_000_000_000_000_000_000_000_000_000_000_000;
 
-/// The dual that stands at first, and each one that is listed, and once more with its price raised by 1: the price, the
-/// values, whether it holds.
+/// The first dual, and each one that is listed, also with its price raised by 1: the price, the values, and whether it
+/// is feasible.
 pub fn listed(rt: &impl Print, alloc: Global, instance: &Instance, text: &str) -> io::Result<()> {
     let size = instance.size();
     let mut line = DualLine::new(alloc, instance)?;

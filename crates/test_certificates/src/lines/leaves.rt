@@ -1,4 +1,4 @@
-//! Leaves, and the targets that they close.
+//! Leaves, and the cutoffs at which they are fathomed.
 
 ghost use Rattle.std.specs.Prelude.{◌≡◌, ◌≤◌, ◌*◌, ℕ, length, All, IfOk, IsTrue};
 ghost use Rattle.hub_spec.specs.Limits.{most_cost, most_part, most_denominator};
@@ -11,7 +11,7 @@ use hub_model::{Instance, MOST_COST, MOST_DENOMINATOR};
 use std::alloc::{AllocError, Global};
 use std::io;
 
-/// Whether the weighted cuts close the target at the branch behind the lines, and whether the target raised by 1.
+/// Whether the weighted cuts fathom the branch after the lines at the cutoff, and at the cutoff raised by 1.
 pub fn closed(rt: &impl Print, alloc: Global, instance: &Instance, text: &str) -> io::Result<()> {
     let fields: Vec<&str> = text.split(" / ").collect(alloc)?;
     match fields.as_slice() {

@@ -5,7 +5,7 @@ use cert_lines::NodeMarks;
 use std::alloc::Global;
 use std::io;
 
-/// The set at first, and behind each change.
+/// The set at first, and after each change.
 pub fn changed(rt: &impl Print, alloc: Global, text: &str) -> io::Result<()> {
     let (size, changes) = text.split_once(' ').unwrap_or((text, ""));
     let mut set = NodeMarks::new(alloc, node(size).min(1000))?;

@@ -10,7 +10,7 @@ pub fn node(word: &str) -> u32 {
     word.parse().unwrap_or(u32::MAX)
 }
 
-/// The number behind the word, where the text begins with it, and what comes then; else 1 and the whole text.
+/// The number after the word, where the text begins with it, and the rest; else 1 and the whole text.
 pub fn number_behind<'t>(word: &str, text: &'t str) -> (u32, &'t str) {
     let (first, rest) = text.split_once(' ').unwrap_or((text, ""));
     if first != word {
@@ -20,7 +20,7 @@ pub fn number_behind<'t>(word: &str, text: &'t str) -> (u32, &'t str) {
     (node(number), rest)
 }
 
-/// The amounts that the words tell; a word that is no number is the greatest number.
+/// The numbers of the words. A word that is no number counts as the greatest number.
 pub fn amounts(alloc: Global, text: &str) -> Result<Vec<u128>, AllocError> {
     let mut amounts = Vec::new(alloc);
     for word in text.split_whitespace() {
@@ -29,7 +29,7 @@ pub fn amounts(alloc: Global, text: &str) -> Result<Vec<u128>, AllocError> {
     Ok(amounts)
 }
 
-/// The amount that a word tells.
+/// The number of a word.
 pub fn amount(word: &str) -> u128 {
     word.parse().unwrap_or(u128::MAX)
 }

@@ -11,8 +11,8 @@ use test_lines::nodes;
 // The nodes that are looked at are those below this one.
 const LIMIT: u32 = 4;
 
-/// The candidates; then the hubs, what they cost and whether the plan is whole, the same behind its routes, and when it
-/// is begun anew.
+/// The candidates; then the hubs, their cost, and whether the plan is complete; then cost and completeness after its
+/// routes, and after a restart.
 pub fn whole(rt: &impl Print, alloc: Global, instance: &Instance, text: &str) -> io::Result<()> {
     let (hubs, routes) = text.split_once(" / ").unwrap_or((text, ""));
     let hubs = nodes(alloc, hubs)?;

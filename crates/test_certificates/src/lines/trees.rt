@@ -11,7 +11,7 @@ use std::io;
 // The nodes that are looked at are those below this one.
 const LIMIT: u32 = 4;
 
-/// What is free at first, and behind each line.
+/// The free nodes at first, and after each line.
 pub fn walked(rt: &impl Print, alloc: Global, instance: &Instance, text: &str) -> io::Result<()> {
     let mut path = TreePath::new(alloc, instance)?;
     tell(rt, alloc, "at first", &path)?;
@@ -70,7 +70,7 @@ fn branch(path: &mut TreePath, k: u32)
     }
 }
 
-/// The path behind these lines.
+/// The path after these lines.
 pub fn behind(alloc: Global, instance: &Instance, text: &str) -> Result<TreePath, AllocError>
     ensures { IfOk result (λ path. path.size ≡ instance.now.size) }
 {

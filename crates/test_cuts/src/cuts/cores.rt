@@ -1,4 +1,4 @@
-//! Pareto-optimal duals and the Pareto-optimal cut of a hub set (`core_cuts`), and what a pool keeps of such a cut.
+//! Pareto-optimal duals and the Pareto-optimal cut of a hub set (`core_cuts`), and its entry in a pool.
 
 ghost use Rattle.std.specs.Prelude.{◌<◌, IsTrue, IfOk, IfSome};
 ghost use Rattle.hub_spec.specs.Plans.{IsHubSet};
@@ -13,7 +13,7 @@ use cut_pool::Pool;
 use hub_model::{HubSet, Instance};
 use std::alloc::{AllocError, Global};
 
-/// The part of the commodity's Pareto-optimal dual, the dual, and the turns, the scale and the ways of its proof.
+/// The part of the commodity's Pareto-optimal dual, the dual, and its proof: turns, scale and edges.
 pub fn dual(
     alloc: Global,
     instance: &Instance,
@@ -54,7 +54,7 @@ fn proof_told(alloc: Global, proof: &DualProof) -> Result<String, AllocError> {
     format!(in alloc; "turns {turns} scale {scale} ways {ways:?}")
 }
 
-/// The Pareto-optimal cut, and what a pool has once it is added as the set's, and again as one that is given.
+/// The Pareto-optimal cut, and its entry in a pool: added as the set's, and again as an imported cut.
 pub fn cut(alloc: Global, instance: &Instance, set: &HubSet) -> Result<String, AllocError>
     requires { IsHubSet instance.now set.now }
 {

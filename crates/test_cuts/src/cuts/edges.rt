@@ -1,4 +1,4 @@
-//! Rows of hub edges (`hub_edges`), and the minimal dual by a row (`dual_cuts`).
+//! Edge rows (`hub_edges`), and the minimal dual from an edge row (`dual_cuts`).
 
 ghost use Rattle.std.specs.Prelude.{◌<◌};
 ghost use Rattle.hub_spec.specs.Plans.{IsHubSet};
@@ -11,7 +11,7 @@ use hub_model::{HubSet, Instance};
 use std::alloc::{AllocError, Global};
 use test_lines::node;
 
-/// The row of the line's commodity.
+/// The edge row of the line's commodity.
 pub fn asked(alloc: Global, instance: &Instance, line: &str) -> Result<String, AllocError> {
     let i = node(line, " from ");
     let j = node(line, " to ");
@@ -30,7 +30,7 @@ fn told(alloc: Global, row: &EdgeRow) -> Result<String, AllocError> {
     format!(in alloc; "from {from} to {to} {entries:?}")
 }
 
-/// The minimal dual by the row.
+/// The minimal dual from the edge row.
 pub fn dual(
     alloc: Global,
     instance: &Instance,

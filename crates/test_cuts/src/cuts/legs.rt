@@ -1,4 +1,4 @@
-//! Legs of an instance's routes by unit of flow (`leg_duals`), between the node 1 and the hubs 0 and 2.
+//! Legs of an instance's routes per unit of flow (`leg_duals`), between the node 1 and the hubs 0 and 2.
 
 use hub_model::Instance;
 use leg_duals::{FirstLegs, SetLegs};

@@ -1,4 +1,4 @@
-//! The duals of one origin by the parts of a scratch, each made alone (`pareto_cuts`).
+//! The duals of one origin by the parts of a workspace, each made alone (`pareto_cuts`).
 
 ghost use Rattle.std.specs.Prelude.{◌<◌};
 ghost use Rattle.hub_spec.specs.Plans.{IsHubSet};
@@ -9,7 +9,7 @@ use hub_model::{HubSet, Instance};
 use pareto_cuts::{DualBuffer, OriginScratch, Separation, SetTables};
 use std::alloc::{AllocError, Global};
 
-/// The sum of the prices from `i` and the dual of the commodity, by tables, an origin's scratch and a buffer.
+/// The sum of the prices from `i`, and the dual of the commodity, from tables, an origin's workspace and a buffer.
 pub fn separation(
     alloc: Global,
     instance: &Instance,

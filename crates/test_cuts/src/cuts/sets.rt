@@ -1,4 +1,4 @@
-//! What is asked of a hub set: what it lacks, the assignment to it (`assign_sub`), and cuts and duals of it.
+//! Results for a hub set: feasibility, assignment (`assign_sub`), cuts and duals.
 
 ghost use Rattle.hub_spec.specs.Plans.{IsHubSet};
 ghost use Rattle.hub_spec.specs.Separation.{IsOrder};
@@ -11,7 +11,7 @@ use std::alloc::{AllocError, Global};
 use test_lines::{first, list, node};
 use test_plain::is_hub_set;
 
-/// What is asked of the hubs that the line names.
+/// The result of the line for its hubs.
 pub fn asked(alloc: Global, instance: &Instance, line: &str) -> Result<String, AllocError> {
     let hubs = list::<u32>(alloc, line, " hubs ")?;
     if first(line) == "lacking" {

@@ -1,4 +1,4 @@
-//! Prices, values and routes by unit of flow (`unit_duals`), over tables of legs that know no instance.
+//! Prices, values and routes per unit of flow (`unit_duals`), from tables of legs without an instance.
 
 ghost use Rattle.std.specs.Prelude.{◌≡◌, ◌+◌, ◌≤◌, All, IsTrue, IfSome, IfOk};
 ghost use Rattle.unit_duals.specs.Limits.{most_leg};
@@ -14,7 +14,7 @@ const ROOM: usize = 9;
 /// The longest leg.
 const MOST_LEG: u64 = 10_000_000_000_000_000;
 
-/// The prices and the values of an origin, by the legs of the line.
+/// The prices and values of an origin, from the legs of the line.
 pub fn duals(alloc: Global, line: &str) -> Result<String, AllocError> {
     let trunk = list::<u64>(alloc, line, " trunk ")?;
     let last = list::<u64>(alloc, line, " last ")?;

@@ -1,4 +1,4 @@
-//! Cuts of any values of the candidates (`value_cuts`).
+//! Cuts of any dual values (`value_cuts`).
 
 ghost use Rattle.std.specs.Prelude.{◌≡◌, ◌<◌, ◌≤◌, length, IfOk};
 ghost use Rattle.cut_model.specs.ValueRows.{AreValuesFor, allowed_price, node_value};
@@ -10,7 +10,7 @@ use std::alloc::{AllocError, Global};
 use test_lines::{list, node};
 use value_cuts::{CandidateLegs, DualScratch, PriceScratch, Values, cut_sums, price, set_prices};
 
-/// What is asked of one row of values in a unit, which has a value for each candidate.
+/// The result of the line for one row of values in a unit, with a value for each candidate.
 pub fn asked(alloc: Global, instance: &Instance, line: &str) -> Result<String, AllocError> {
     let row = list::<u32>(alloc, line, " row ")?;
     let i = node(line, " from ");

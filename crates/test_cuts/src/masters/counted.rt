@@ -1,5 +1,4 @@
-//! Where so many hubs are wanted: bounds of branches, whether they close targets and what they fix, and the hubs that a point
-//! picks (`p_hub`).
+//! For exactly p hubs: bounds of branches, their cutoffs and fixings, and the hubs that a point picks (`p_hub`).
 
 ghost use Rattle.std.specs.Prelude.{◌≡◌, ◌≤◌, ◌^◌, false, IsTrue, Some};
 ghost use Rattle.hub_spec.specs.Trees.{HasRoom};

@@ -1,4 +1,4 @@
-//! What the fields of a line give.
+//! The fields of a line.
 
 use hub_model::{Branch, Factors, Instance, Nodes, Parts, Refusal, Terms, is_node_list};
 use std::alloc::{AllocError, Global};

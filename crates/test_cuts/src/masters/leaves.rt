@@ -1,4 +1,4 @@
-//! Bounds of branches under weights on cuts, whether they close targets, and what they fix.
+//! Bounds of branches under weights on cuts, the cutoffs at which they fathom, and their fixings.
 
 ghost use Rattle.std.specs.Prelude.{ℕ, ◌<◌, length};
 ghost use Rattle.leaf_bound.specs.Numbers.{AreWeightingNumbers, IsNodeWithin, IsBranchWithin};

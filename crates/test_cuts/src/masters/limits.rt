@@ -1,4 +1,4 @@
-//! Tests of nodes, on which the calls rest.
+//! Tests of nodes that the calls require.
 
 ghost use Rattle.std.specs.Prelude.{◌<◌, All, IsTrue};
 

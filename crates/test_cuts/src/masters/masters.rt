@@ -1,4 +1,4 @@
-//! Masters of branches, and what they advise.
+//! Masters of branches, with their weights and points.
 
 ghost use Rattle.std.specs.Prelude.{◌≡◌, ◌<◌, ◌≤◌, length, map, max, All, IsTrue, IfOk};
 ghost use Rattle.frac_master.specs.Masters.{AreMasterNumbers, AreWithinTotals, candidates_of};

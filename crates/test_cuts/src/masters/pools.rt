@@ -1,4 +1,4 @@
-//! A pool of cuts, the steps that are made on it, and what it keeps.
+//! A pool of cuts, the steps made on it, and its contents.
 
 use super::fields::{numbers, parted};
 use cut_pool::{CutSums, KeptCut, Pool};

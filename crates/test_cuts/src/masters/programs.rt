@@ -1,4 +1,4 @@
-//! Linear programs in rows that may be wide (`plain_rows`), the steps that are made on them, and how they stand.
+//! Linear programs with wide numbers (`plain_rows`), the steps made on them, and their tableaux.
 
 ghost use Rattle.std.specs.Prelude.{◌≤◌, map, All, IsTrue};
 ghost use Rattle.frac_rows.specs.Rows.{AreNarrow};

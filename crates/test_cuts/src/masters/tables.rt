@@ -1,4 +1,4 @@
-//! Tables of rows, the steps that are made on them, and how they stand.
+//! Tableaux, the steps made on them, and their numbers.
 
 ghost use Rattle.std.specs.Prelude.{◌≤◌, length};
 

@@ -1,4 +1,4 @@
-//! Whether numbers are such as bounds may be made of.
+//! Whether numbers are within the limits of bounds.
 
 ghost use Rattle.std.specs.Prelude.{◌≡◌, ℕ, ◌*◌, ◌/◌, ◌<◌, ◌≤◌, length, sum, All, IsTrue};
 ghost use Rattle.std.specs.List.{AllZip};

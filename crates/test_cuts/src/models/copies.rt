@@ -1,4 +1,4 @@
-//! Copies of what a tree and a file are made of.
+//! Copies of leaves and of lists of numbers.
 
 use hub_model::{Mix, Numbers, TreeLine};
 use std::alloc::{AllocError, Global};

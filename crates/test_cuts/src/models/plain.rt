@@ -1,4 +1,4 @@
-//! What the plain program finds for an instance.
+//! The results of the reference program for an instance.
 
 ghost use Rattle.std.specs.Prelude.{◌<◌};
 ghost use Rattle.hub_spec.specs.Plans.{IsHubSet};
@@ -8,7 +8,7 @@ use std::alloc::{AllocError, Global};
 use test_lines::{first, list, node};
 use test_plain::{assign, best_plan, is_hub_set, is_plan, minimal_dual, set_cost, set_cut_rows};
 
-/// What an optimal plan costs, by its routes, if there is one.
+/// The cost of an optimal plan, by its routes, if there is a plan.
 pub fn best(alloc: Global, instance: &Instance) -> Result<String, AllocError> {
     let Some(plan) = best_plan(alloc, instance)? else {
         return String::from_str(alloc, "none");
@@ -20,7 +20,7 @@ pub fn best(alloc: Global, instance: &Instance) -> Result<String, AllocError> {
     format!(in alloc; "cost {cost}")
 }
 
-/// The hubs and the routes of a copy of it.
+/// The hubs and routes of a copy of an optimal plan.
 pub fn plan(alloc: Global, instance: &Instance) -> Result<String, AllocError> {
     let Some(best) = best_plan(alloc, instance)? else {
         return String::from_str(alloc, "none");
@@ -31,7 +31,7 @@ pub fn plan(alloc: Global, instance: &Instance) -> Result<String, AllocError> {
     format!(in alloc; "hubs {hubs:?} routes {routes:?}")
 }
 
-/// What is asked of the hubs that the line names.
+/// The result of the line for its hubs.
 pub fn with_hubs(alloc: Global, instance: &Instance, line: &str) -> Result<String, AllocError> {
     let hubs = list::<u32>(alloc, line, " hubs ")?;
     if !is_hub_set(instance, &hubs) {

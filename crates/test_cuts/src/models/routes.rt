@@ -4,7 +4,7 @@ use hub_model::{Branch, Instance, route_cost};
 use std::alloc::{AllocError, Global};
 use test_lines::{first, node};
 
-/// The costs of all routes: from and to each node, by each two hubs.
+/// The costs of all routes: for all origins and destinations, through all pairs of hubs.
 pub fn routes(alloc: Global, instance: &Instance) -> Result<String, AllocError> {
     let mut costs = Vec::new(alloc);
     let n = instance.size();
@@ -20,7 +20,7 @@ pub fn routes(alloc: Global, instance: &Instance) -> Result<String, AllocError> 
     format!(in alloc; "{costs:?}")
 }
 
-/// The root, or its child where the line's candidate is a hub or is closed.
+/// The root, or its child where the line's candidate is open or closed.
 pub fn branch(alloc: Global, instance: &Instance, line: &str) -> Result<String, AllocError> {
     let root = Branch::root(alloc, instance)?;
     match first(line) {

@@ -1,4 +1,4 @@
-//! Texts: what is wrong with an instance, and a text with a part replaced.
+//! Texts of the faults of an instance, and a text with a part replaced.
 
 use hub_model::{InstanceFault, Refusal, Wanted};
 use std::alloc::{AllocError, Global};
@@ -26,7 +26,7 @@ const REFUSALS: [Refusal; 14] = [
     Refusal::OutOfMemory,
 ];
 
-/// Each kind of refusal in words, a line each.
+/// A line for each kind of refusal.
 pub fn refusals(alloc: Global) -> Result<String, AllocError> {
     let mut text = String::new(alloc);
     for refusal in REFUSALS {

@@ -1,4 +1,4 @@
-//! Files of each layout: the parts of an instance that they give, or their first fault.
+//! Files of each layout: the parts of an instance, or the first fault.
 
 ghost use Rattle.std.specs.Prelude.{◌≤◌};
 ghost use Rattle.file_spec.specs.Limits.{most_divisor};

@@ -1,4 +1,4 @@
-//! The tokens of a file in turn, each as what it is to be.
+//! The tokens of a file one after another, each read as its kind.
 
 use super::files::numbers_told;
 use hub_model::{InstanceFault, Numbers, Refusal};

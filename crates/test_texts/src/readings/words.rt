@@ -1,4 +1,4 @@
-//! The words of a command line, and what they ask for.
+//! Command lines, and the commands that they give.
 
 use hub_model::Terms;
 use hub_words::{Command, How, Making, Search, SearchRule, Solving, Source, asked};

@@ -1,4 +1,4 @@
-//! Files read from a shelf, and a gate that is passed.
+//! Files read from a shelf, and workers that pass a gate.
 
 use super::pieces::{piece, shown};
 use hub_io::{Failed, Gate, MemFile, MemShelf, OpenGate, ReadEnd, Shelf, read_whole};

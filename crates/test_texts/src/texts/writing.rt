@@ -1,4 +1,4 @@
-//! Numbers and lines that are put.
+//! Numbers and lines that are written.
 
 use super::pieces::shown;
 use super::sinks::{sink_of, tell, tell_end};
