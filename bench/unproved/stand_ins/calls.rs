@@ -14,7 +14,7 @@ use crate::hub_io::{Failed, OpenGate, Sink};
 use crate::hub_model::{HubNumber, Instance, Nodes, Tail, Terms};
 use crate::kept_cuts::Found;
 use crate::node_rounds::search_rounds;
-use crate::price_passes::Adviser;
+use crate::dual_adviser::Adviser;
 use crate::proof_text::{Finding, Workers, write_found};
 use crate::rattle_std::Vec;
 use crate::rattle_std::alloc::Global;

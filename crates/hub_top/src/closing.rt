@@ -9,11 +9,11 @@ ghost use Rattle.hub_top.specs.Solving.{IsClosed};
 
 use cert_format::Certificate;
 use closing_search::{Task, optimize_within};
+use dual_adviser::Adviser;
 use hub_model::Instance;
 use hub_words::Search;
 use kept_cuts::Found;
 use old_duals::first_values;
-use price_passes::Adviser;
 use search_advice::Advice;
 use std::alloc::{AllocError, Global};
 use std::thread::Threads;

@@ -1,0 +1,89 @@
+//! The hub set that prices name: a guess to better, and to make duals tight at.
+
+ghost use Rattle.dual_ascent.specs.Shapes.{KeepsShape};
+
+use crate::adviser::Adviser;
+use ascent_lengths::Workers;
+use std::alloc::AllocError;
+use std::thread::Threads;
+use tight_duals::Scope;
+
+/// Duals are made tight at a set that costs above the bound by less than this part of its cost, and above the best known one by less than that.
+const NEAR_BOUND: i128 = 1 << 10;
+
+const NEAR_BEST: i128 = 1 << 7;
+/// And where a guess leaves no more than this part of the gap, or that part of the cost.
+const GUESSED_GAP: i128 = 4;
+
+const GUESSED_COST: i128 = 1 << 17;
+
+impl Adviser {
+    /// Rounds the prices to a set, betters the guess from it, and makes the duals tight at it, where the
+    /// bound then comes to what is wanted.
+    pub(crate) fn round<R: Threads + Sync>(
+        &mut self,
+        workers: &Workers<'_, R>,
+        wanted: i128,
+    ) -> Result<(), AllocError>
+        ensures { KeepsShape self.old self.new }
+    {
+        if !self.node.mark_rounded(&mut self.sets.rounded) {
+            return Ok(());
+        }
+        if self.sets.tries.note(&self.sets.rounded) {
+            self.node.mark_near(&mut self.sets.movable);
+            let (marks, movable) = (&self.sets.rounded, &self.sets.movable);
+            let cost = self.search.improve(workers, &self.lengths, marks, movable);
+            self.sets.offer(&self.lengths, self.search.marks(), cost);
+        }
+        let wanted = wanted.min(self.sets.cost);
+        if self.progress.bound >= wanted {
+            return Ok(());
+        }
+        self.finish(workers, wanted)
+    }
+
+    /// Makes the duals tight at the rounded set, if the bound then comes to what is wanted.
+    fn finish<R: Threads + Sync>(
+        &mut self,
+        workers: &Workers<'_, R>,
+        wanted: i128,
+    ) -> Result<(), AllocError>
+        ensures { KeepsShape self.old self.new }
+    {
+        let bound = self.progress.bound;
+        let cost = self.search.cost(&self.lengths, &self.sets.rounded);
+        let is_near = cost.wrapping_sub(bound) < cost / NEAR_BOUND
+            && cost.wrapping_sub(wanted) < wanted / NEAR_BEST;
+        if !is_near {
+            return Ok(());
+        }
+        self.node.sort_by_load(&self.state.sums().loads);
+        self.fitting
+            .take(workers.alloc, &self.lengths, &self.sets.rounded)?;
+        let scope = Scope {
+            order: &self.node.order,
+            core: &self.node.core,
+            sides: &self.node.sides,
+        };
+        let guess = self
+            .fitting
+            .guess(workers, &self.lengths, &self.state, scope)?;
+        let left = wanted.wrapping_sub(guess);
+        if left > wanted.wrapping_sub(bound) / GUESSED_GAP && left > wanted / GUESSED_COST {
+            return Ok(());
+        }
+        if self
+            .fitting
+            .bound(workers, &self.lengths, &self.state, scope)?
+            < wanted
+        {
+            return Ok(());
+        }
+        self.fitting
+            .tighten(workers, &self.lengths, &mut self.state, scope)?;
+        self.node.make_whole();
+        self.progress.bound = self.bound();
+        Ok(())
+    }
+}

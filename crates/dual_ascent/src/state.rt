@@ -1,0 +1,276 @@
+//! The duals of all commodities, with their sums.
+
+ghost use Rattle.std.specs.Prelude.{◌≡◌, ◌≤◌, length, IfOk};
+ghost use Rattle.hub_spec.specs.Limits.{most_nodes};
+ghost use Rattle.dual_ascent.specs.Shapes.{cells, KeepsShape};
+
+use crate::origins::Terms;
+use crate::sums::Sums;
+use crate::waits::{LONG_WAIT, NO_QUOTE, NO_WAIT, Quote};
+use ascent_lengths::{Commodity, Lengths, PlaceValues, at, copy, fill, row, row_mut};
+use search_advice::Side;
+use std::alloc::{AllocError, Global};
+use std::marker::Model;
+
+/// The duals of all commodities in the small units: for each a price, with its wait, and a value for each place; with
+/// the sums of prices and values, weighed by the flows. It is seen as its shape.
+#[derive(Drop)]
+pub struct State {
+    pub(crate) size: usize,
+    pub(crate) places: usize,
+    pub(crate) quotes: Vec<Quote>,
+    pub(crate) values: Vec<u32>,
+    pub(crate) sums: Sums,
+}
+
+impl Model for State {
+    ghost use Rattle.std.specs.Prelude.{◌≡◌, ◌*◌, vec_len};
+    ghost use Rattle.dual_ascent.specs.Shapes.{Shape};
+
+    ghost Value = { Shape };
+
+    ghost view = { λ s. record { size = s.size; places = s.places } };
+
+    ghost invariant = { λ s. vec_len s.values ≡ s.size * s.size * s.places };
+}
+
+impl State {
+    /// Duals of so many nodes and places, all 0.
+    pub fn new(alloc: Global, size: usize, places: usize) -> Result<State, AllocError>
+        requires size { size ≤ most_nodes }
+        requires places { places ≤ most_nodes }
+        ensures { IfOk result (λ s. s ≡ record { size = size; places = places }) }
+    {
+        let commodities = size * size;
+        Ok(State {
+            size,
+            places,
+            quotes: vec![in alloc; NO_QUOTE; commodities]?,
+            values: vec![in alloc; 0; commodities * places]?,
+            sums: Sums::new(alloc, places)?,
+        })
+    }
+
+    /// The values, commodity by commodity: a number for each place.
+    pub fn values(&self) -> &[u32]
+        ensures { length result.now ≡ cells self.now }
+    {
+        &self.values
+    }
+
+    /// The values, to be written.
+    pub fn values_mut(&mut self) -> &mut [u32]
+        ensures { KeepsShape self.old self.new }
+    {
+        &mut self.values
+    }
+
+    /// The prices and waits, commodity by commodity.
+    pub fn quotes(&self) -> &[Quote] {
+        &self.quotes
+    }
+
+    /// The number of places.
+    pub fn places(&self) -> usize
+        ensures { result ≡ self.now.places }
+    {
+        self.places
+    }
+
+    /// The sums of prices and values.
+    pub fn sums(&self) -> &Sums {
+        &self.sums
+    }
+
+    /// Takes over other sums.
+    pub fn take_sums(&mut self, sums: &Sums)
+        ensures { KeepsShape self.old self.new }
+    {
+        self.sums.take(sums);
+    }
+
+    /// The bound of a branch with these sides by the cut of these duals, in 10^-12.
+    pub fn bound(&self, lengths: &Lengths, sides: &[Side]) -> i128 {
+        self.sums.bound(lengths, sides)
+    }
+
+    /// What passes raise at these terms: the price of all commodities less what their loads cost, with what the ramps
+    /// leave for a rise. It is weighed by the flows.
+    pub fn objective(&self, terms: Terms<'_>) -> i128 {
+        self.sums.objective(terms)
+    }
+
+    /// Makes these prices and values, a row for each destination, the duals of the origin.
+    pub fn put_origin(&mut self, i: usize, prices: &[u32], values: &[u32])
+        ensures { KeepsShape self.old self.new }
+    {
+        let quotes = row_mut(&mut self.quotes, i, self.size);
+        for (quote, price) in quotes.iter_mut().zip(prices) {
+            quote.price = *price;
+        }
+        copy(values, row_mut(&mut self.values, i, values.len()));
+    }
+
+    /// Takes over these prices and waits.
+    pub fn take_quotes(&mut self, quotes: &[Quote])
+        ensures { KeepsShape self.old self.new }
+    {
+        copy(quotes, &mut self.quotes);
+    }
+
+    /// Ends all waits, as if there had been none.
+    pub fn end_waits(&mut self)
+        ensures { KeepsShape self.old self.new }
+    {
+        for quote in self.quotes.iter_mut() {
+            quote.wait = NO_WAIT;
+        }
+    }
+
+    /// Breaks all waits off.
+    pub fn break_off_waits(&mut self)
+        ensures { KeepsShape self.old self.new }
+    {
+        for quote in self.quotes.iter_mut() {
+            quote.wait.break_off();
+        }
+    }
+
+    /// Ends the waits of the commodities that could gain where the place is opened, or closed.
+    pub fn end_waits_at(
+        &mut self,
+        lengths: &Lengths,
+        found: &mut PlaceValues,
+        k: usize,
+        is_opened: bool,
+    )
+        ensures { KeepsShape self.old self.new }
+    {
+        for c in 0..self.quotes.len() {
+            if self.could_gain(lengths, found, c, k, is_opened) {
+                self.quotes[c].wait = NO_WAIT;
+            }
+        }
+    }
+
+    /// Leaves all commodities out of the next passes but those among the listed that could gain where the place is opened, or
+    /// closed.
+    pub(crate) fn leave_out_others(
+        &mut self,
+        lengths: &Lengths,
+        found: &mut PlaceValues,
+        listed: &[usize],
+        k: usize,
+        is_opened: bool,
+    )
+        ensures { KeepsShape self.old self.new }
+    {
+        for quote in self.quotes.iter_mut() {
+            quote.wait = LONG_WAIT;
+        }
+        for c in listed {
+            if self.could_gain(lengths, found, *c, k, is_opened) {
+                if let Some(quote) = self.quotes.get_mut(*c) {
+                    quote.wait = NO_WAIT;
+                }
+            }
+        }
+    }
+
+    /// Tells whether the dual of the commodity of this number could gain where the place is opened, since it has a value, or
+    /// closed, since it has one or some route by it is nearly as short as the values allow.
+    fn could_gain(
+        &self,
+        lengths: &Lengths,
+        found: &mut PlaceValues,
+        c: usize,
+        k: usize,
+        is_opened: bool,
+    ) -> bool {
+        if lengths.flow(c) == 0 {
+            return false;
+        }
+        let values = row(&self.values, c, self.places);
+        if at(values, k) > 0 {
+            return true;
+        }
+        if is_opened {
+            return false;
+        }
+        let price = self.quotes.get(c).map_or(0, |quote| quote.price);
+        let limit = price.saturating_add(price / 64).saturating_add(1);
+        let size = self.size.max(1);
+        let legs = Commodity::of(lengths.tables(), c / size, c % size);
+        if !legs.is_near(k, limit) {
+            return false;
+        }
+        found.begin_from(&legs, price, values);
+        found.shortest_by(&legs, k) < limit
+    }
+
+    /// Begins with these values, a number for each place of each commodity in order, none of them above any price, and
+    /// with the greatest prices that they allow. Past the end of the list they are 0.
+    pub fn begin_with(&mut self, lengths: &Lengths, found: &mut PlaceValues, values: &[u32])
+        ensures { KeepsShape self.old self.new }
+    {
+        fill(&mut self.values, 0);
+        copy(values, &mut self.values);
+        for value in self.values.iter_mut() {
+            *value = (*value).min(lengths.longest());
+        }
+        fill(&mut self.quotes, NO_QUOTE);
+        self.sums.clear();
+        for c in 0..self.quotes.len() {
+            if lengths.flow(c) > 0 {
+                let price = self.greatest_price(lengths, found, c);
+                self.quotes[c].price = price;
+                let flow = lengths.flow(c) as i64;
+                self.sums.total = self
+                    .sums
+                    .total
+                    .wrapping_add(flow.wrapping_mul(price as i64));
+                let values = row(&self.values, c, self.places);
+                ascent_lengths::add_weighed(flow, values, &mut self.sums.loads);
+            }
+        }
+    }
+
+    /// The greatest price that the values of the commodity of this number allow.
+    fn greatest_price(&self, lengths: &Lengths, found: &mut PlaceValues, c: usize) -> u32 {
+        let size = self.size.max(1);
+        let legs = Commodity::of(lengths.tables(), c / size, c % size);
+        found.greatest_price(
+            &legs,
+            row(&self.values, c, self.places),
+            lengths.most_price(),
+        )
+    }
+
+    /// Gives each commodity without flow whose way back has the flow of both the values of this.
+    pub fn mirror(&mut self, lengths: &Lengths)
+        ensures { KeepsShape self.old self.new }
+    {
+        let (size, places) = (self.size, self.places);
+        for i in 0..size {
+            for j in 0..size {
+                let (from, to) = (
+                    j.wrapping_mul(size).wrapping_add(i),
+                    i.wrapping_mul(size).wrapping_add(j),
+                );
+                if lengths.flow(to) == 0 && lengths.flow(from) > 0 {
+                    self.copy_row(from, to, places);
+                }
+            }
+        }
+    }
+
+    /// Copies the values of a commodity to another.
+    fn copy_row(&mut self, from: usize, to: usize, places: usize)
+        ensures { KeepsShape self.old self.new }
+    {
+        for k in 0..places {
+            let value = at(row(&self.values, from, places), k);
+            ascent_lengths::put(row_mut(&mut self.values, to, places), k, value);
+        }
+    }
+}

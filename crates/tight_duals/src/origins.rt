@@ -1,0 +1,143 @@
+//! The fitted duals of an origin. Origins are a crew's work: the duals of each are found by themselves.
+
+use crate::tight::{begin_tight, is_tight};
+use ascent_lengths::{Commodity, Lengths, PlaceValues, add_weighed, copy, put, row, row_mut};
+use crew::Job;
+use dual_ascent::{Quote, Sums};
+use hub_moves::SetRoutes;
+use std::alloc::{AllocError, Global};
+
+/// How duals are fitted: made tight at a set, all of them or just those that are not tight yet, or with prices as they are.
+#[derive(Clone, Copy)]
+pub(crate) enum Rule<'a> {
+    Tight(&'a SetRoutes),
+    Loose(&'a SetRoutes),
+    Kept,
+}
+
+/// The fitted duals of an origin, its prices and values, and their sums; where just those that are not tight are fitted, by how much the sums
+/// change. Where the sums alone are asked for there are no values.
+#[derive(Drop)]
+pub(crate) struct Fitted {
+    pub(crate) prices: Vec<u32>,
+    pub(crate) values: Vec<u32>,
+    pub(crate) sums: Sums,
+}
+
+/// Origins whose duals are to be fitted, with the duals of all commodities: block e is the
+/// origin at e after the first. The stale places ask nothing of others, and the asked ones get, in order, what is asked of them. It
+/// tells whether the duals are to be kept, or just their sums.
+#[derive(Clone, Copy)]
+pub(crate) struct Origins<'a> {
+    pub(crate) lengths: &'a Lengths,
+    pub(crate) rule: Rule<'a>,
+    pub(crate) stale: &'a [usize],
+    pub(crate) asked: &'a [usize],
+    pub(crate) quotes: &'a [Quote],
+    pub(crate) values: &'a [u32],
+    pub(crate) first: usize,
+    pub(crate) is_kept: bool,
+}
+
+impl<'a> Origins<'a> {
+    /// No duals as yet: the values of the origin where they are to be kept, and all prices and sums 0.
+    fn begin(&self, alloc: Global, values: &[u32]) -> Result<Fitted, AllocError> {
+        Ok(Fitted {
+            prices: vec![in alloc; 0; self.lengths.size()]?,
+            values: if self.is_kept {
+                values.to_vec(alloc)?
+            } else {
+                Vec::new(alloc)
+            },
+            sums: Sums::new(alloc, self.lengths.places())?,
+        })
+    }
+
+    /// Fits the dual of a commodity with this price and these values, and gives its price, unless it is to stay.
+    fn fit(
+        &self,
+        found: &mut PlaceValues,
+        from: [usize; 2],
+        price: u32,
+        values: &[u32],
+    ) -> Option<u32> {
+        let [i, j] = from;
+        let legs = Commodity::of(self.lengths.tables(), i, j);
+        let price = match self.rule {
+            Rule::Kept => {
+                found.begin_from(&legs, price, values);
+                price
+            }
+            Rule::Loose(routes) if is_tight(routes, self.lengths, from, price, values) =>
+                return None,
+            Rule::Loose(routes) | Rule::Tight(routes) => {
+                begin_tight(routes, self.lengths, from, values, found)
+            }
+        };
+        for k in self.stale {
+            found.withhold(*k);
+        }
+        let near = legs.below(price);
+        for k in self.asked {
+            found.settle_asked(&near, *k);
+        }
+        Some(price)
+    }
+
+    /// Adds the dual that was fitted to those of the origin, and to the sums.
+    fn add(&self, duals: &mut Fitted, j: usize, flow: i64, price: u32, values: &[u32]) {
+        put(&mut duals.prices, j, price);
+        let added = flow.wrapping_mul(price as i64);
+        duals.sums.total = duals.sums.total.wrapping_add(added);
+        add_weighed(flow, values, &mut duals.sums.loads);
+        copy(values, row_mut(&mut duals.values, j, self.lengths.places()));
+    }
+
+    /// Takes the dual that was there before from the sums, where these are a change.
+    fn take_old(&self, duals: &mut Fitted, flow: i64, price: u32, values: &[u32]) {
+        if let Rule::Loose(_) = self.rule {
+            let taken = flow.wrapping_mul(price as i64);
+            duals.sums.total = duals.sums.total.wrapping_sub(taken);
+            add_weighed(0i64.wrapping_sub(flow), values, &mut duals.sums.loads);
+        }
+    }
+}
+
+impl<'a> Job<Fitted> for Origins<'a> {
+    type Scratch = PlaceValues;
+
+    ghost answer = { λ job block duals. Unit {0} };
+
+    ghost accepts = { λ job block. Unit {0} };
+
+    ghost serves = { λ job scratch. Unit {0} };
+
+    fn new_scratch(&self, alloc: Global) -> Result<PlaceValues, AllocError> {
+        PlaceValues::new(alloc, self.lengths.places())
+    }
+
+    fn at(
+        &self,
+        alloc: Global,
+        scratch: &mut PlaceValues,
+        block: u32,
+    ) -> Result<Fitted, AllocError> {
+        let lengths = self.lengths;
+        let i = self.first.wrapping_add(block as usize);
+        let values = row(self.values, i, lengths.origin_values());
+        let quotes = row(self.quotes, i, lengths.size());
+        let mut duals = self.begin(alloc, values)?;
+        for (j, (flow, quote)) in lengths.flows(i).iter().zip(quotes).enumerate() {
+            let before = row(values, j, lengths.places());
+            put(&mut duals.prices, j, quote.price);
+            if *flow > 0 {
+                if let Some(price) = self.fit(scratch, [i, j], quote.price, before) {
+                    let flow = *flow as i64;
+                    self.add(&mut duals, j, flow, price, scratch.values());
+                    self.take_old(&mut duals, flow, quote.price, before);
+                }
+            }
+        }
+        Ok(duals)
+    }
+}
