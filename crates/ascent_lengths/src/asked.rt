@@ -66,28 +66,32 @@ impl PlaceValues {
         put(&mut self.lasts, k, FAR);
     }
 
-    /// Gives a place the least value that the routes by it, alone or with places that ask something, ask at the price.
-    pub fn settle_asked(&mut self, legs: &Commodity<'_>, k: usize) {
-        if !legs.is_near(k, self.price) {
-            self.settle(legs, k, 0);
-            return;
+    /// Gives each of these places, in order, the least value that the routes by it, alone or with places that ask something, ask at
+    /// the price.
+    pub fn settle_asked(&mut self, legs: &Commodity<'_>, places: &[usize]) {
+        let legs = legs.below(self.price);
+        for k in places {
+            let value = self.asked(&legs, *k);
+            self.settle(&legs, *k, value);
         }
-        self.withhold(k);
-        let least = self.least_by(legs, k).min(legs.alone(k));
-        self.settle(legs, k, self.price.saturating_sub(least));
     }
 
-    /// What the routes with the place as one of two hubs, and the other one's value, come to at least, or the price, where none
-    /// of these routes is shorter whatever the values are.
-    fn least_by(&self, legs: &Commodity<'_>, k: usize) -> u32 {
-        let mut least = self.price;
-        if legs.forth(k) < least {
+    /// The least value that is asked of a place, which asks nothing of others until it has it.
+    #[inline(always)]
+    fn asked(&mut self, legs: &Commodity<'_>, k: usize) -> u32 {
+        let (forth, back) = (legs.forth(k), legs.back(k));
+        if forth.min(back) >= self.price {
+            return 0;
+        }
+        self.withhold(k);
+        let mut least = self.price.min(legs.alone(k));
+        if forth < least {
             least = least.min(legs.onward(k).least(&self.lasts));
         }
-        if legs.back(k) < least {
+        if back < least {
             least = least.min(legs.before(k).least(&self.firsts));
         }
-        least
+        self.price.saturating_sub(least)
     }
 
     /// What the shortest routes by the place come to, each with the other hub's value.

@@ -130,25 +130,13 @@ pub fn lower(items: &mut [i32], others: &[i32]) {
     }
 }
 
-/// Lowers each number to the base and a length less a potential, where that is less, and its key with it.
-pub fn lower_reduced(
-    items: &mut [i32],
-    keys: &mut [i32],
-    base: i32,
-    lengths: &[i32],
-    potentials: &[i32],
-) {
+/// Lowers each number to the base and a length less a potential, where that is less.
+pub fn lower_reduced(items: &mut [i32], base: i32, lengths: &[i32], potentials: &[i32]) {
     let count = items.len().min(lengths.len()).min(potentials.len());
-    let count = count.min(keys.len());
     for place in 0..count {
         let reduced = base
             .wrapping_add(lengths[place])
             .wrapping_sub(potentials[place]);
-        keys[place] = if reduced < items[place] {
-            reduced
-        } else {
-            keys[place]
-        };
         items[place] = items[place].min(reduced);
     }
 }

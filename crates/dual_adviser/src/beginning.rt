@@ -12,6 +12,8 @@ use tight_duals::Scope;
 
 /// In so many first passes at the root the start set sets caps and least prices.
 const EARLY_PASSES: usize = 3;
+/// After so many passes at the root a first core is chosen.
+const FIRST_PASSES: usize = 1;
 /// So often the core is chosen anew at the root, in passes.
 const ROOT_AGE: usize = 6;
 /// A core that has seen so many passes below the root is chosen anew.
@@ -128,7 +130,8 @@ impl Adviser {
     {
         let passes = self.progress.passes();
         let is_due = if self.progress.is_root {
-            passes >= EARLY_PASSES && (passes - EARLY_PASSES) % ROOT_AGE == 0
+            passes == FIRST_PASSES
+                || passes >= EARLY_PASSES && (passes - EARLY_PASSES) % ROOT_AGE == 0
         } else {
             self.node.is_whole() || self.node.age >= MOST_AGE
         };
@@ -136,7 +139,7 @@ impl Adviser {
         if is_due || self.node.wants_others(&self.state.sums().loads) {
             self.complete(workers)?;
             self.node.age = 1;
-            let reach = if self.progress.is_root && passes == EARLY_PASSES {
+            let reach = if self.progress.is_root && passes <= EARLY_PASSES {
                 FULL_PRICE
             } else {
                 REACH

@@ -74,10 +74,7 @@ impl BestDual {
 
     /// Gives each of these places, in order, the least value that is asked of it.
     pub fn complete(&mut self, legs: &Commodity<'_>, others: &[usize]) {
-        let near = legs.below(self.found.price());
-        for k in others {
-            self.found.settle_asked(&near, *k);
-        }
+        self.found.settle_asked(legs, others);
     }
 
     /// The length by some single place, of which no best price is above.

@@ -7,7 +7,7 @@
 //! place, added.
 
 use ascent_lengths::{
-    NONE, at, fill, lower, lower_reduced, put, raise, row, row_mut, set_differences, small,
+    NONE, at, fill, lower, lower_reduced, put, raise, row, row_mut, set_differences, short, small,
 };
 use std::alloc::{AllocError, Global};
 
@@ -16,6 +16,8 @@ pub const FULL_PRICE: i64 = 1 << 12;
 
 /// The turn of a copy that was not reached.
 const NEVER: i32 = i32::MAX;
+/// What lies over the distance of a copy whose turn has come: with its bits, no distance is below.
+const SHUT: i32 = i32::MAX;
 /// No more ways are sent along, whatever happens.
 const MOST_WAYS: usize = 100_000;
 
@@ -27,6 +29,7 @@ pub(crate) struct Copies {
     pub(crate) capacities: Vec<i32>,
     pub(crate) potentials: Vec<i32>,
     distances: Vec<i32>,
+    shut: Vec<i32>,
     pub(crate) turns: Vec<i32>,
     pub(crate) before: Vec<usize>,
 }
@@ -37,6 +40,7 @@ impl Copies {
             capacities: vec![in alloc; 0; room]?,
             potentials: vec![in alloc; 0; room]?,
             distances: vec![in alloc; 0; room]?,
+            shut: vec![in alloc; 0; room]?,
             turns: vec![in alloc; 0; room]?,
             before: vec![in alloc; 0; room]?,
         })
@@ -92,7 +96,7 @@ pub(crate) struct Network {
     reached: Vec<u64>,
     base: Vec<i32>,
     pub(crate) has_base: bool,
-    keys: Vec<i32>,
+    numbers: Vec<i32>,
     pub(crate) left: Copies,
     pub(crate) right: Copies,
 }
@@ -121,7 +125,7 @@ impl Network {
             reached: vec![in alloc; 0; words]?,
             base: vec![in alloc; NONE; room]?,
             has_base: false,
-            keys: vec![in alloc; NONE; room]?,
+            numbers: numbers(alloc, room)?,
             left: Copies::new(alloc, room)?,
             right: Copies::new(alloc, room)?,
         })
@@ -219,7 +223,7 @@ impl Network {
             };
             let near = at(&self.right.distances, m);
             put(&mut self.right.turns, m, turn);
-            put(&mut self.keys, m, NONE);
+            put(&mut self.right.shut, m, SHUT);
             if at(&self.right.capacities, m) > 0 {
                 let distance = near
                     .wrapping_add(at(&self.right.potentials, m))
@@ -244,8 +248,7 @@ impl Network {
         let width = self.width;
         let distances = row_mut(&mut self.right.distances, 0, width);
         set_differences(&self.base, &self.right.potentials, distances);
-        let keys = row_mut(&mut self.keys, 0, width);
-        set_differences(&self.base, &self.right.potentials, keys);
+        fill(row_mut(&mut self.right.shut, 0, width), 0);
         fill(row_mut(&mut self.right.turns, 0, width), NEVER);
         self.left.leave(width);
         ascent_lengths::copy(&self.open, &mut self.reached);
@@ -265,20 +268,23 @@ impl Network {
 
     /// The nearest of the right copies whose turn has not come, if one is nearer than the limit.
     fn nearest(&self, limit: i32) -> Option<usize> {
-        let keys = row(&self.keys, 0, self.width);
+        let distances = row(&self.right.distances, 0, self.width);
+        let (shut, numbers) = (self.right.shut.as_slice(), self.numbers.as_slice());
+        let count = distances.len().min(shut.len()).min(numbers.len());
         let mut least = limit;
-        for index in 0..keys.len() {
-            least = least.min(keys[index]);
+        for index in 0..count {
+            least = least.min(distances[index] | shut[index]);
         }
         if least >= limit {
             return None;
         }
-        for index in 0..keys.len() {
-            if keys[index] == least {
-                return Some(index);
-            }
+        let mut first = NONE;
+        for index in 0..count {
+            let number = numbers[index];
+            let is_least = distances[index] | shut[index] == least;
+            first = first.min(if is_least { number } else { NONE });
         }
-        None
+        Some(first.max(0) as usize)
     }
 
     /// Goes back from a right copy to the left ones whose flow it takes, and on from these. It gives the next turn.
@@ -312,7 +318,6 @@ impl Network {
         let base = distance.wrapping_add(at(&self.left.potentials, x));
         lower_reduced(
             row_mut(&mut self.right.distances, 0, self.width),
-            row_mut(&mut self.keys, 0, self.width),
             base,
             row(&self.costs, x, self.width),
             &self.right.potentials,
@@ -325,15 +330,30 @@ impl Network {
         let potential = at(&self.right.potentials, m);
         let costs = row(&self.costs, m, self.width);
         let there = self.left.potentials.as_slice();
-        let reached = self.left.turns.as_slice();
-        let count = costs.len().min(there.len()).min(reached.len());
+        let (reached, numbers) = (self.left.turns.as_slice(), self.numbers.as_slice());
+        let count = costs.len().min(there.len());
+        let count = count.min(reached.len()).min(numbers.len());
+        let mut first = NONE;
         for x in 0..count {
-            if there[x].wrapping_add(costs[x]) == potential && reached[x] < turn {
-                return Some(x);
-            }
+            let number = numbers[x];
+            let is_tight = there[x].wrapping_add(costs[x]) == potential;
+            let is_before = reached[x] < turn;
+            first = first.min(if is_tight & is_before { number } else { NONE });
         }
-        None
+        if first == NONE {
+            return None;
+        }
+        Some(first.max(0) as usize)
     }
+}
+
+/// The numbers from 0 on, so many.
+fn numbers(alloc: Global, count: usize) -> Result<Vec<i32>, AllocError> {
+    let mut numbers = Vec::with_capacity(alloc, count)?;
+    for number in 0..count {
+        numbers.push(small(short(number)))?;
+    }
+    Ok(numbers)
 }
 
 /// Sets the bit of this number.

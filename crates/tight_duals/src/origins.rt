@@ -77,10 +77,7 @@ impl<'a> Origins<'a> {
         for k in self.stale {
             found.withhold(*k);
         }
-        let near = legs.below(price);
-        for k in self.asked {
-            found.settle_asked(&near, *k);
-        }
+        found.settle_asked(&legs, self.asked);
         Some(price)
     }
 
