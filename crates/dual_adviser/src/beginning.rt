@@ -4,17 +4,15 @@ ghost use Rattle.dual_ascent.specs.Shapes.{KeepsShape};
 
 use crate::adviser::Adviser;
 use ascent_lengths::{Workers, copy, fill, marked};
-use dual_ascent::Bench;
+use dual_ascent::{Bench, NO_GAIN};
 use dual_flow::FULL_PRICE;
 use std::alloc::AllocError;
 use std::thread::Threads;
-use tight_duals::Scope;
+use tight_duals::{Scope, fit_single};
 
 /// In so many first passes at the root the start set sets caps and least prices.
 const EARLY_PASSES: usize = 3;
-/// After so many passes at the root a first core is chosen.
-const FIRST_PASSES: usize = 1;
-/// So often the core is chosen anew at the root, in passes.
+/// So often the core is chosen anew at the root, in passes, from the second on.
 const ROOT_AGE: usize = 6;
 /// A core that has seen so many passes below the root is chosen anew.
 const MOST_AGE: usize = 12;
@@ -59,6 +57,27 @@ impl Adviser {
         let _ = self.sets.tries.note(&self.sets.start);
         let cost = self.search_from_start(workers);
         self.begin_root(workers, cost);
+        if self.lengths.wanted() == Some(1) && !self.lengths.tables().has_limit() {
+            return self.begin_single(workers, cost);
+        }
+        Ok(false)
+    }
+
+    /// Begins where one hub is wanted with the duals that are best then, and tells whether the bound comes to this cost.
+    fn begin_single<R: Threads + Sync>(
+        &mut self,
+        workers: &Workers<'_, R>,
+        cost: i128,
+    ) -> Result<bool, AllocError>
+        ensures { KeepsShape self.old self.new }
+    {
+        fit_single(workers.alloc, &self.lengths, &mut self.state)?;
+        let bound = self.bound();
+        if bound >= cost {
+            self.progress.note(bound, NO_GAIN);
+            return Ok(true);
+        }
+        self.begin_with(&[]);
         Ok(false)
     }
 
@@ -130,8 +149,7 @@ impl Adviser {
     {
         let passes = self.progress.passes();
         let is_due = if self.progress.is_root {
-            passes == FIRST_PASSES
-                || passes >= EARLY_PASSES && (passes - EARLY_PASSES) % ROOT_AGE == 0
+            passes % ROOT_AGE == 1
         } else {
             self.node.is_whole() || self.node.age >= MOST_AGE
         };
@@ -139,7 +157,7 @@ impl Adviser {
         if is_due || self.node.wants_others(&self.state.sums().loads) {
             self.complete(workers)?;
             self.node.age = 1;
-            let reach = if self.progress.is_root && passes <= EARLY_PASSES {
+            let reach = if self.progress.is_root && passes < ROOT_AGE {
                 FULL_PRICE
             } else {
                 REACH

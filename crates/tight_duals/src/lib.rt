@@ -9,6 +9,8 @@
 
 mod fitting;
 mod origins;
+mod single;
 mod tight;
 
 pub use fitting::{Fitting, Scope};
+pub use single::fit_single;
