@@ -9,9 +9,11 @@ use crate::tables::Tables;
 #[derive(Clone, Copy)]
 pub struct Commodity<'a> {
     tables: &'a Tables,
-    pub(crate) collect: &'a [u32],
+    /// The legs of collection by place.
+    pub collect: &'a [u32],
     collect_near: &'a [u32],
-    pub(crate) deliver: &'a [u32],
+    /// The legs of delivery by place.
+    pub deliver: &'a [u32],
     deliver_near: &'a [u32],
     reach: Option<Reach<'a>>,
 }
@@ -21,31 +23,16 @@ impl<'a> Commodity<'a> {
     pub fn of(tables: &'a Tables, i: usize, j: usize) -> Commodity<'a> {
         let reach = match &tables.distances {
             None => None,
-            Some(distances) => Some(distances.reach(i, j)),
+            Some(distances) => Some(distances.reach(tables.size, i, j)),
         };
         Commodity {
             tables,
-            collect: tables.collect(i),
-            collect_near: tables.collect_near(i),
-            deliver: tables.deliver(j),
-            deliver_near: tables.deliver_near(j),
+            collect: tables.legs.collect.row(i),
+            collect_near: tables.collect_near.row(i),
+            deliver: tables.legs.deliver.row(j),
+            deliver_near: tables.deliver_near.row(j),
             reach,
         }
-    }
-
-    /// The legs of collection by place.
-    pub fn collect(&self) -> &'a [u32] {
-        self.collect
-    }
-
-    /// The legs of delivery by place.
-    pub fn deliver(&self) -> &'a [u32] {
-        self.deliver
-    }
-
-    /// The number of places.
-    pub fn places(&self) -> usize {
-        self.tables.places()
     }
 
     /// Tells whether some route by the place, allowed or not, is shorter than the limit.
@@ -93,7 +80,7 @@ impl<'a> Commodity<'a> {
     pub fn onward(&self, k: usize) -> HubRoutes<'a> {
         HubRoutes {
             own: at(self.collect, k),
-            trunk: self.tables.trunk(k),
+            trunk: self.tables.legs.trunk.row(k),
             other: self.deliver,
             fan: self.reach.map(|reach| reach.onward(k)),
         }
@@ -103,7 +90,7 @@ impl<'a> Commodity<'a> {
     pub fn before(&self, k: usize) -> HubRoutes<'a> {
         HubRoutes {
             own: at(self.deliver, k),
-            trunk: self.tables.trunk_back(k),
+            trunk: self.tables.legs.trunk_back.row(k),
             other: self.collect,
             fan: self.reach.map(|reach| reach.before(k)),
         }
@@ -113,7 +100,7 @@ impl<'a> Commodity<'a> {
     pub fn set_pairs(&self, k: usize, others: Others<'_>, lengths: &mut [i32]) {
         if self.reach.is_some() {
             self.set_allowed_pairs(k, others.places, lengths);
-        } else if self.tables.has_even_trunk() {
+        } else if self.tables.has_even_trunk {
             self.set_even_pairs(k, others, lengths);
         } else {
             self.set_all_pairs(k, others, lengths);
@@ -128,7 +115,7 @@ impl<'a> Commodity<'a> {
     }
 
     fn set_even_pairs(&self, k: usize, others: Others<'_>, lengths: &mut [i32]) {
-        let trunk = self.tables.trunk(k);
+        let trunk = self.tables.legs.trunk.row(k);
         let (own, end) = (at(self.collect, k), at(self.deliver, k));
         let count = lengths.len().min(others.places.len());
         let count = count.min(others.collect.len()).min(others.deliver.len());
@@ -140,7 +127,10 @@ impl<'a> Commodity<'a> {
     }
 
     fn set_all_pairs(&self, k: usize, others: Others<'_>, lengths: &mut [i32]) {
-        let (trunk, trunk_back) = (self.tables.trunk(k), self.tables.trunk_back(k));
+        let (trunk, trunk_back) = (
+            self.tables.legs.trunk.row(k),
+            self.tables.legs.trunk_back.row(k),
+        );
         let (own, end) = (at(self.collect, k), at(self.deliver, k));
         let count = lengths.len().min(others.places.len());
         let count = count.min(others.collect.len()).min(others.deliver.len());
@@ -160,9 +150,9 @@ impl<'a> Commodity<'a> {
     pub(crate) fn shortest_barred(&self) -> u32 {
         let Some(reach) = self.reach else { return FAR };
         let mut least = FAR;
-        for k in 0..self.tables.places() {
+        for k in 0..self.tables.places {
             if self.forth(k) < least {
-                let trunk = self.tables.trunk(k);
+                let trunk = self.tables.legs.trunk.row(k);
                 let onward = reach.onward(k).least_sum(trunk, self.deliver, false);
                 least = least.min(onward.wrapping_add(at(self.collect, k)));
             }

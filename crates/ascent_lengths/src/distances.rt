@@ -1,6 +1,6 @@
 //! Which routes of an instance are allowed, where no route may be longer than a limit: distances, in a unit of their own.
 
-use crate::rows::{FAR, at, row};
+use crate::rows::{FAR, at};
 use crate::tables::Legs;
 
 /// Distances in tables as those of the legs, and the limit; with, by commodity, the length below which all of its routes are
@@ -13,14 +13,14 @@ pub(crate) struct Distances {
 }
 
 impl Distances {
-    /// The distances of the commodity from `i` to `j`.
-    pub(crate) fn reach(&self, i: usize, j: usize) -> Reach<'_> {
+    /// The distances of the commodity from `i` to `j`, of so many nodes.
+    pub(crate) fn reach(&self, size: usize, i: usize, j: usize) -> Reach<'_> {
         Reach {
             legs: &self.legs,
-            collect: self.legs.collect(i),
-            deliver: self.legs.deliver(j),
+            collect: self.legs.collect.row(i),
+            deliver: self.legs.deliver.row(j),
             limit: self.limit,
-            safe_below: at(row(&self.safe_below, i, self.legs.size), j),
+            safe_below: at(&self.safe_below, i.wrapping_mul(size).wrapping_add(j)),
         }
     }
 }
@@ -41,7 +41,7 @@ impl<'a> Reach<'a> {
     pub(crate) fn onward(&self, k: usize) -> Fan<'a> {
         Fan {
             own: at(self.collect, k),
-            trunk: self.legs.trunk(k),
+            trunk: self.legs.trunk.row(k),
             other: self.deliver,
             limit: self.limit,
         }
@@ -51,7 +51,7 @@ impl<'a> Reach<'a> {
     pub(crate) fn before(&self, k: usize) -> Fan<'a> {
         Fan {
             own: at(self.deliver, k),
-            trunk: self.legs.trunk_back(k),
+            trunk: self.legs.trunk_back.row(k),
             other: self.collect,
             limit: self.limit,
         }

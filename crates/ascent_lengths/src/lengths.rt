@@ -16,20 +16,32 @@ use std::alloc::{AllocError, Global};
 /// the other none.
 #[derive(Drop)]
 pub struct Lengths {
-    tables: Tables,
-    wanted: Option<usize>,
+    /// The number of nodes.
+    pub size: usize,
+    /// The number of candidates.
+    pub places: usize,
+    /// The tables over all places.
+    pub tables: Tables,
+    /// The number of hubs that is wanted, if one is.
+    pub wanted: Option<usize>,
+    /// Whether a commodity and its way back are one.
+    pub are_merged: bool,
+    /// How many commodities have flow.
+    pub flowing: usize,
+    /// The fixed costs by place, in what one unit of flow along one unit of length costs.
+    pub fixed: Vec<i64>,
+    /// What a hub set counts as costing more for each commodity that it has no allowed route for, in 10^-12: no set that has
+    /// all costs as much.
+    pub lack_cost: i128,
     units: Units,
-    are_merged: bool,
     flows: Vec<u32>,
-    flowing: usize,
-    fixed: Vec<i64>,
     fixed_costs: Vec<i128>,
-    lack_cost: i128,
 }
 
 impl Lengths {
     /// The instance in small units.
     pub fn new(alloc: Global, instance: &Instance) -> Result<Lengths, AllocError> {
+        let size = instance.size() as usize;
         let places = instance.candidates().len();
         let units = Units::of(instance);
         let legs = legs_of(alloc, instance, Measure::of(instance, units))?;
@@ -37,12 +49,14 @@ impl Lengths {
         let are_even = legs.are_even()
             && distances.as_ref().is_none_or(|some| some.legs.are_even());
         let mut flows = flows_in(alloc, instance, units.flow)?;
-        let are_merged = are_even && may_merge(&flows, legs.size);
+        let are_merged = are_even && may_merge(&flows, size);
         if are_merged {
-            merge(&mut flows, legs.size);
+            merge(&mut flows, size);
         }
         let fixed_costs = fixed_costs(alloc, instance)?;
         let mut lengths = Lengths {
+            size,
+            places,
             wanted: wanted_hubs(instance),
             units,
             are_merged,
@@ -51,7 +65,7 @@ impl Lengths {
             flows,
             fixed: fixed_in(alloc, &fixed_costs, units)?,
             fixed_costs,
-            tables: Tables::of(alloc, places, legs, distances)?,
+            tables: Tables::of(alloc, [size, places], legs, distances)?,
         };
         lengths.set_safe(alloc)?;
         Ok(lengths)
@@ -63,8 +77,8 @@ impl Lengths {
             return Ok(());
         }
         let mut safe = vec![in alloc; FAR; self.commodities()]?;
-        for i in 0..self.size() {
-            for (j, safe) in row_mut(&mut safe, i, self.size()).iter_mut().enumerate() {
+        for i in 0..self.size {
+            for (j, safe) in row_mut(&mut safe, i, self.size).iter_mut().enumerate() {
                 *safe = Commodity::of(&self.tables, i, j).shortest_barred();
             }
         }
@@ -74,44 +88,14 @@ impl Lengths {
         Ok(())
     }
 
-    /// The tables over all places.
-    pub fn tables(&self) -> &Tables {
-        &self.tables
-    }
-
-    /// The number of nodes.
-    pub fn size(&self) -> usize {
-        self.tables.size()
-    }
-
-    /// The number of candidates.
-    pub fn places(&self) -> usize {
-        self.tables.places()
-    }
-
-    /// The number of hubs that is wanted, if one is.
-    pub fn wanted(&self) -> Option<usize> {
-        self.wanted
-    }
-
     /// The number of commodities.
     pub fn commodities(&self) -> usize {
-        self.size().wrapping_mul(self.size())
-    }
-
-    /// How many commodities have flow.
-    pub fn flowing(&self) -> usize {
-        self.flowing
-    }
-
-    /// Tells whether a commodity and its way back are one.
-    pub fn are_merged(&self) -> bool {
-        self.are_merged
+        self.size.wrapping_mul(self.size)
     }
 
     /// How many values the commodities of an origin have.
     pub fn origin_values(&self) -> usize {
-        self.size().wrapping_mul(self.places())
+        self.size.wrapping_mul(self.places)
     }
 
     /// The unit of lengths, in 10^-6. It is at least 1.
@@ -143,17 +127,12 @@ impl Lengths {
 
     /// The flows from the origin to each node.
     pub fn flows(&self, i: usize) -> &[u32] {
-        row(&self.flows, i, self.size())
+        row(&self.flows, i, self.size)
     }
 
     /// The flow of the commodity of this number.
     pub fn flow(&self, commodity: usize) -> u32 {
         at(&self.flows, commodity)
-    }
-
-    /// The fixed costs by place, in what one unit of flow along one unit of length costs.
-    pub fn fixed(&self) -> &[i64] {
-        &self.fixed
     }
 
     /// The fixed cost of the place, in 10^-12.
@@ -170,12 +149,6 @@ impl Lengths {
             }
         }
         cost
-    }
-
-    /// What a hub set counts as costing more for each commodity that it has no allowed route for, in 10^-12: no set that has
-    /// all costs as much.
-    pub fn lack_cost(&self) -> i128 {
-        self.lack_cost
     }
 }
 
@@ -231,17 +204,14 @@ fn legs_of(alloc: Global, instance: &Instance, measure: Measure) -> Result<Legs,
         for i in 0..size {
             let collect = measure.leg(instance, measure.collect, i, k);
             let deliver = measure.leg(instance, measure.deliver, k, i);
-            put(row_mut(&mut legs.collect, i, legs.width), x, collect);
-            put(row_mut(&mut legs.deliver, i, legs.width), x, deliver);
+            put(legs.collect.row_mut(i), x, collect);
+            put(legs.deliver.row_mut(i), x, deliver);
         }
-        for (leg, m) in row_mut(&mut legs.trunk, x, legs.width)
-            .iter_mut()
-            .zip(candidates)
-        {
+        for (leg, m) in legs.trunk.row_mut(x).iter_mut().zip(candidates) {
             *leg = measure.leg(instance, measure.trunk, k, *m as usize);
         }
     }
-    legs.turn();
+    legs.turn(candidates.len());
     Ok(legs)
 }
 

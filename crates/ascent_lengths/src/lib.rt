@@ -25,5 +25,5 @@ pub use rows::{
     FAR, NONE, add, add_weighed, at, copy, fill, gather, least_sum, lower, lower_reduced, marked,
     put, raise, row, row_mut, set_differences, set_sums, short, small, weighed, weighed_by,
 };
-pub use tables::Tables;
+pub use tables::{Legs, Table, Tables};
 pub use workers::{MOST_WORKERS, Workers};

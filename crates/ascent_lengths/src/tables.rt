@@ -1,101 +1,115 @@
 //! The legs of routes by way of some places, in tables row by row.
 
 use crate::distances::Distances;
-use crate::rows::{FAR, at, fill, gather, least_sum, put, row, row_mut};
+use crate::rows::{FAR, at, gather, least_sum, put, row, row_mut};
 use std::alloc::{AllocError, Global};
 
-/// Legs of collection, a row for each origin, and of delivery, a row for each destination, and those between places, also turned.
-///
-/// Rows over places have `width` numbers, those past the last place are `FAR`.
+/// Lengths in rows of so many.
 #[derive(Drop)]
-pub(crate) struct Legs {
-    pub(crate) size: usize,
-    pub(crate) width: usize,
-    pub(crate) collect: Vec<u32>,
-    pub(crate) deliver: Vec<u32>,
-    pub(crate) trunk: Vec<u32>,
-    pub(crate) trunk_back: Vec<u32>,
+pub struct Table {
+    cells: Vec<u32>,
+    width: usize,
+}
+
+impl Table {
+    /// So many rows of `FAR`, with room for so many lengths each.
+    pub fn new(alloc: Global, rows: usize, places: usize) -> Result<Table, AllocError> {
+        let width = places.div_ceil(8).wrapping_mul(8);
+        let cells = vec![in alloc; FAR; rows.wrapping_mul(width)]?;
+        Ok(Table { cells, width })
+    }
+
+    /// The row of this number.
+    pub fn row(&self, index: usize) -> &[u32] {
+        row(&self.cells, index, self.width)
+    }
+
+    /// The row of this number, to be written.
+    pub fn row_mut(&mut self, index: usize) -> &mut [u32] {
+        row_mut(&mut self.cells, index, self.width)
+    }
+
+    /// The same rows, of these places alone.
+    fn gathered(&self, alloc: Global, rows: usize, places: &[usize]) -> Result<Table, AllocError> {
+        let mut table = Table::new(alloc, rows, places.len())?;
+        for i in 0..rows {
+            gather(self.row(i), places, table.row_mut(i));
+        }
+        Ok(table)
+    }
+
+    /// For each row of this table and each of so many of the other, the least sum of the two.
+    fn least_sums(
+        &self,
+        alloc: Global,
+        rows: usize,
+        other: &Table,
+        places: usize,
+    ) -> Result<Table, AllocError> {
+        let mut sums = Table::new(alloc, rows, places)?;
+        for i in 0..rows {
+            for k in 0..places {
+                put(sums.row_mut(i), k, least_sum(self.row(i), other.row(k)));
+            }
+        }
+        Ok(sums)
+    }
+}
+
+/// Legs of collection, a row for each origin, and of delivery, a row for each destination, and those between places, also turned. What
+/// stands past the last place of a row is `FAR`.
+#[derive(Drop)]
+pub struct Legs {
+    /// The legs from each origin to the places.
+    pub collect: Table,
+    /// The legs to each destination from the places.
+    pub deliver: Table,
+    /// The legs from each place to the places.
+    pub trunk: Table,
+    /// The legs to each place from the places.
+    pub trunk_back: Table,
 }
 
 impl Legs {
     /// Legs between so many nodes and places, all `FAR`.
     pub(crate) fn new(alloc: Global, size: usize, places: usize) -> Result<Legs, AllocError> {
-        let width = places.div_ceil(8).wrapping_mul(8);
         Ok(Legs {
-            size,
-            width,
-            collect: vec![in alloc; FAR; size.wrapping_mul(width)]?,
-            deliver: vec![in alloc; FAR; size.wrapping_mul(width)]?,
-            trunk: vec![in alloc; FAR; places.wrapping_mul(width)]?,
-            trunk_back: vec![in alloc; FAR; places.wrapping_mul(width)]?,
+            collect: Table::new(alloc, size, places)?,
+            deliver: Table::new(alloc, size, places)?,
+            trunk: Table::new(alloc, places, places)?,
+            trunk_back: Table::new(alloc, places, places)?,
         })
     }
 
-    /// Turns the trunk legs.
-    pub(crate) fn turn(&mut self) {
-        for k in 0..self.trunk.len() / self.width.max(1) {
-            for m in 0..self.width {
-                let leg = at(row(&self.trunk, k, self.width), m);
-                put(row_mut(&mut self.trunk_back, m, self.width), k, leg);
+    /// Turns the trunk legs between so many places.
+    pub(crate) fn turn(&mut self, places: usize) {
+        for k in 0..places {
+            for m in 0..places {
+                put(self.trunk_back.row_mut(m), k, at(self.trunk.row(k), m));
             }
         }
     }
 
-    /// The same legs by way of these places alone.
-    fn over(&self, alloc: Global, places: &[usize]) -> Result<Legs, AllocError> {
-        let mut legs = Legs::new(alloc, self.size, places.len())?;
-        let width = legs.width;
-        for i in 0..self.size {
-            gather(
-                self.collect(i),
-                places,
-                row_mut(&mut legs.collect, i, width),
-            );
-            gather(
-                self.deliver(i),
-                places,
-                row_mut(&mut legs.deliver, i, width),
-            );
-        }
+    /// The same legs of so many nodes by way of these places alone.
+    fn over(&self, alloc: Global, size: usize, places: &[usize]) -> Result<Legs, AllocError> {
+        let mut legs = Legs::new(alloc, 0, places.len())?;
+        legs.collect = self.collect.gathered(alloc, size, places)?;
+        legs.deliver = self.deliver.gathered(alloc, size, places)?;
         for (x, k) in places.iter().enumerate() {
-            gather(self.trunk(*k), places, row_mut(&mut legs.trunk, x, width));
-            gather(
-                self.trunk_back(*k),
-                places,
-                row_mut(&mut legs.trunk_back, x, width),
-            );
+            gather(self.trunk.row(*k), places, legs.trunk.row_mut(x));
         }
+        legs.turn(places.len());
         Ok(legs)
-    }
-
-    /// Tells whether all legs are the same both ways.
-    pub(crate) fn are_even(&self) -> bool {
-        self.collect.as_slice() == self.deliver.as_slice() && self.has_even_trunk()
     }
 
     /// Tells whether the trunk legs are the same both ways.
     fn has_even_trunk(&self) -> bool {
-        self.trunk.as_slice() == self.trunk_back.as_slice()
+        self.trunk.cells.as_slice() == self.trunk_back.cells.as_slice()
     }
 
-    /// The legs of collection from the origin to each place.
-    pub(crate) fn collect(&self, i: usize) -> &[u32] {
-        row(&self.collect, i, self.width)
-    }
-
-    /// The legs of delivery from each place to the destination.
-    pub(crate) fn deliver(&self, j: usize) -> &[u32] {
-        row(&self.deliver, j, self.width)
-    }
-
-    /// The trunk legs from the place to each place.
-    pub(crate) fn trunk(&self, k: usize) -> &[u32] {
-        row(&self.trunk, k, self.width)
-    }
-
-    /// The trunk legs to the place from each place.
-    pub(crate) fn trunk_back(&self, k: usize) -> &[u32] {
-        row(&self.trunk_back, k, self.width)
+    /// Tells whether all legs are the same both ways.
+    pub(crate) fn are_even(&self) -> bool {
+        self.collect.cells.as_slice() == self.deliver.cells.as_slice() && self.has_even_trunk()
     }
 }
 
@@ -103,26 +117,37 @@ impl Legs {
 /// be longer than a limit.
 #[derive(Drop)]
 pub struct Tables {
-    places: usize,
-    pub(crate) legs: Legs,
-    collect_near: Vec<u32>,
-    deliver_near: Vec<u32>,
-    has_even_trunk: bool,
+    /// The number of nodes.
+    pub size: usize,
+    /// The number of places.
+    pub places: usize,
+    /// The legs.
+    pub legs: Legs,
+    /// The least lengths from each origin to the places by another or the same.
+    pub(crate) collect_near: Table,
+    /// The least lengths to each destination from the places by another or the same.
+    pub(crate) deliver_near: Table,
+    /// Whether trunk legs are the same both ways.
+    pub(crate) has_even_trunk: bool,
     pub(crate) distances: Option<Distances>,
 }
 
 impl Tables {
-    /// The tables of these legs and distances, by way of so many places.
+    /// The tables of these legs and distances between so many nodes and places.
     pub(crate) fn of(
         alloc: Global,
-        places: usize,
+        counts: [usize; 2],
         legs: Legs,
         distances: Option<Distances>,
     ) -> Result<Tables, AllocError> {
+        let [size, places] = counts;
         Ok(Tables {
+            size,
             places,
-            collect_near: least_sums(alloc, &legs.collect, &legs.trunk_back, legs.width)?,
-            deliver_near: least_sums(alloc, &legs.deliver, &legs.trunk, legs.width)?,
+            collect_near: legs
+                .collect
+                .least_sums(alloc, size, &legs.trunk_back, places)?,
+            deliver_near: legs.deliver.least_sums(alloc, size, &legs.trunk, places)?,
             has_even_trunk: legs.has_even_trunk(),
             legs,
             distances,
@@ -134,86 +159,17 @@ impl Tables {
         let distances = match &self.distances {
             None => None,
             Some(distances) => Some(Distances {
-                legs: distances.legs.over(alloc, places)?,
+                legs: distances.legs.over(alloc, self.size, places)?,
                 limit: distances.limit,
                 safe_below: distances.safe_below.to_vec(alloc)?,
             }),
         };
-        let legs = self.legs.over(alloc, places)?;
-        Tables::of(alloc, places.len(), legs, distances)
-    }
-
-    /// The number of nodes.
-    pub fn size(&self) -> usize {
-        self.legs.size
-    }
-
-    /// The number of places.
-    pub fn places(&self) -> usize {
-        self.places
-    }
-
-    /// The number of columns of a row over places.
-    pub fn width(&self) -> usize {
-        self.legs.width
+        let legs = self.legs.over(alloc, self.size, places)?;
+        Tables::of(alloc, [self.size, places.len()], legs, distances)
     }
 
     /// Tells whether no route may be longer than a limit.
     pub fn has_limit(&self) -> bool {
         self.distances.is_some()
     }
-
-    /// Tells whether trunk legs are the same both ways.
-    pub(crate) fn has_even_trunk(&self) -> bool {
-        self.has_even_trunk
-    }
-
-    /// The legs of collection from the origin to each place.
-    pub fn collect(&self, i: usize) -> &[u32] {
-        self.legs.collect(i)
-    }
-
-    /// The least lengths from the origin to each place by another or the same.
-    pub(crate) fn collect_near(&self, i: usize) -> &[u32] {
-        row(&self.collect_near, i, self.legs.width)
-    }
-
-    /// The legs of delivery from each place to the destination.
-    pub fn deliver(&self, j: usize) -> &[u32] {
-        self.legs.deliver(j)
-    }
-
-    /// The least lengths from each place to the destination by another or the same.
-    pub(crate) fn deliver_near(&self, j: usize) -> &[u32] {
-        row(&self.deliver_near, j, self.legs.width)
-    }
-
-    /// The trunk legs from the place to each place.
-    pub fn trunk(&self, k: usize) -> &[u32] {
-        self.legs.trunk(k)
-    }
-
-    /// The trunk legs to the place from each place.
-    pub fn trunk_back(&self, k: usize) -> &[u32] {
-        self.legs.trunk_back(k)
-    }
-}
-
-/// For each row of the first table and each row of the second, the least sum of the two.
-fn least_sums(
-    alloc: Global,
-    table: &[u32],
-    others: &[u32],
-    width: usize,
-) -> Result<Vec<u32>, AllocError> {
-    let mut sums = vec![in alloc; FAR; table.len()]?;
-    for i in 0..table.len() / width.max(1) {
-        let legs = row(table, i, width);
-        let into = row_mut(&mut sums, i, width);
-        fill(into, FAR);
-        for k in 0..into.len().min(others.len() / width.max(1)) {
-            into[k] = least_sum(legs, row(others, k, width));
-        }
-    }
-    Ok(sums)
 }

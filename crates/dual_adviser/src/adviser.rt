@@ -120,7 +120,7 @@ impl Adviser {
             .pass(workers, &self.lengths, terms, &mut self.bench);
         let bound = self.bound();
         self.progress.note(bound, gain);
-        if self.progress.is_idle(self.lengths.flowing(), wanted) {
+        if self.progress.is_idle(self.lengths.flowing, wanted) {
             self.state.break_off_waits();
         }
         if bound >= wanted {
@@ -201,7 +201,7 @@ impl Advice for Adviser {
             return Ok(false);
         }
         self.complete(&workers)?;
-        if self.lengths.are_merged() {
+        if self.lengths.are_merged {
             self.state.mirror(&self.lengths);
         }
         Ok(true)

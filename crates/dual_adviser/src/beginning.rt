@@ -6,6 +6,7 @@ use crate::adviser::Adviser;
 use ascent_lengths::{Workers, copy, fill, marked};
 use dual_ascent::{Bench, NO_GAIN};
 use dual_flow::FULL_PRICE;
+use hub_moves::Ground;
 use std::alloc::AllocError;
 use std::thread::Threads;
 use tight_duals::{Scope, fit_single};
@@ -48,16 +49,16 @@ impl Adviser {
             }
             return Ok(false);
         }
-        self.search.begin(
+        let ground = Ground {
             workers,
-            &self.lengths,
-            &self.sets.movable,
-            &mut self.sets.start,
-        );
+            lengths: &self.lengths,
+            movable: &self.sets.movable,
+        };
+        self.search.begin(&ground, &mut self.sets.start);
         let _ = self.sets.tries.note(&self.sets.start);
         let cost = self.search_from_start(workers);
         self.begin_root(workers, cost);
-        if self.lengths.wanted() == Some(1) && !self.lengths.tables().has_limit() {
+        if self.lengths.wanted == Some(1) && !self.lengths.tables.has_limit() {
             return self.begin_single(workers, cost);
         }
         Ok(false)
@@ -85,8 +86,12 @@ impl Adviser {
     fn search_from_start<R: Threads + Sync>(&mut self, workers: &Workers<'_, R>) -> i128
         ensures { KeepsShape self.old self.new }
     {
-        let (start, movable) = (&self.sets.start, &self.sets.movable);
-        let cost = self.search.improve(workers, &self.lengths, start, movable);
+        let ground = Ground {
+            workers,
+            lengths: &self.lengths,
+            movable: &self.sets.movable,
+        };
+        let cost = self.search.improve(&ground, &self.sets.start);
         self.sets.offer(&self.lengths, self.search.marks(), cost);
         copy(self.search.marks(), &mut self.sets.start);
         cost
@@ -98,9 +103,13 @@ impl Adviser {
     {
         let unit = self.lengths.worth().max(1);
         self.search.set_caps(&self.lengths, &mut self.node.caps);
-        if self.lengths.wanted().is_some() {
-            let movable = &self.sets.movable;
-            let worth = self.search.hub_worth(workers, &self.lengths, movable, cost) / unit;
+        if self.lengths.wanted.is_some() {
+            let ground = Ground {
+                workers,
+                lengths: &self.lengths,
+                movable: &self.sets.movable,
+            };
+            let worth = self.search.hub_worth(&ground, cost) / unit;
             self.node.hub_worth = worth.clamp(0 - MOST_HUB_WORTH, MOST_HUB_WORTH) as i64;
             self.node.begin_at(&self.sets.start);
         } else if marked(&self.sets.start) == 1 {
@@ -127,7 +136,7 @@ impl Adviser {
         } else {
             0
         };
-        self.node.little = self.progress.little(self.lengths.flowing());
+        self.node.little = self.progress.little(self.lengths.flowing);
         self.node.set_ramps(&self.lengths, None);
         self.choose_core(workers, wanted)?;
         if self.progress.is_root && passes < EARLY_PASSES {

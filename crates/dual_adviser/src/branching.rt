@@ -26,7 +26,7 @@ struct Weighty {
 
 /// The commodities of greatest flow, a tenth of those that have any.
 pub(crate) fn listed(alloc: Global, lengths: &Lengths) -> Result<Vec<usize>, AllocError> {
-    let mut all = Vec::with_capacity(alloc, lengths.flowing())?;
+    let mut all = Vec::with_capacity(alloc, lengths.flowing)?;
     for c in 0..lengths.commodities() {
         let flow = lengths.flow(c);
         if flow > 0 {

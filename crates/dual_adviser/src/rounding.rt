@@ -4,6 +4,7 @@ ghost use Rattle.dual_ascent.specs.Shapes.{KeepsShape};
 
 use crate::adviser::Adviser;
 use ascent_lengths::Workers;
+use hub_moves::Ground;
 use std::alloc::AllocError;
 use std::thread::Threads;
 use tight_duals::Scope;
@@ -32,8 +33,12 @@ impl Adviser {
         }
         if self.sets.tries.note(&self.sets.rounded) {
             self.node.mark_near(&mut self.sets.movable);
-            let (marks, movable) = (&self.sets.rounded, &self.sets.movable);
-            let cost = self.search.improve(workers, &self.lengths, marks, movable);
+            let ground = Ground {
+                workers,
+                lengths: &self.lengths,
+                movable: &self.sets.movable,
+            };
+            let cost = self.search.improve(&ground, &self.sets.rounded);
             self.sets.offer(&self.lengths, self.search.marks(), cost);
         }
         let wanted = wanted.min(self.sets.cost);

@@ -40,7 +40,7 @@ impl Sets {
 
     /// Takes the set as the best, where it costs less and has as many hubs as are wanted.
     pub(crate) fn offer(&mut self, lengths: &Lengths, marks: &[bool], cost: i128) {
-        let fits = match lengths.wanted() {
+        let fits = match lengths.wanted {
             None => true,
             Some(hubs) => marked(marks) == hubs,
         };
@@ -54,7 +54,7 @@ impl Sets {
     /// What gaps are measured by, where the best known set costs so much: that, or eight times its fixed costs, where these are little
     /// of it.
     pub(crate) fn scale(&self, lengths: &Lengths, cost: i128) -> i128 {
-        if lengths.wanted().is_some() {
+        if lengths.wanted.is_some() {
             return cost.max(1);
         }
         cost.min(self.fixed.saturating_mul(8))

@@ -18,7 +18,7 @@ impl Core {
     pub fn of(alloc: Global, lengths: &Lengths, places: &[usize]) -> Result<Core, AllocError> {
         Ok(Core {
             places: places.to_vec(alloc)?,
-            tables: lengths.tables().over(alloc, places)?,
+            tables: lengths.tables.over(alloc, places)?,
         })
     }
 

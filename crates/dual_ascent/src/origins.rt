@@ -102,7 +102,7 @@ impl Stand {
     ) -> Gain {
         self.begin(view, loads);
         let lengths = view.lengths;
-        let caps = row(view.terms.caps, i, lengths.size());
+        let caps = row(view.terms.caps, i, lengths.size);
         let mut gain = NO_GAIN;
         for (j, (quote, flow)) in quotes.iter_mut().zip(lengths.flows(i)).enumerate() {
             if *flow > 0 && !quote.wait.leaves_out() {
@@ -111,7 +111,7 @@ impl Stand {
                     flow: *flow as i64,
                     cap: at(caps, j),
                 };
-                let values = row_mut(values, j, lengths.places());
+                let values = row_mut(values, j, lengths.places);
                 gain.add(self.better_one(view, turning, quote, values));
             }
         }

@@ -66,7 +66,7 @@ impl InTurn {
                 pass.view,
                 &sums.loads,
                 i,
-                row_mut(quotes, i, lengths.size()),
+                row_mut(quotes, i, lengths.size),
                 row_mut(values, i, lengths.origin_values()),
             );
             copy(self.stand.changes(), changes);
@@ -98,8 +98,8 @@ impl Bench {
             core: Core::of(alloc, lengths, places)?,
             ramps: vec![in alloc; NO_RAMP; places.len()]?,
             sums: Sums::new(alloc, places.len())?,
-            origins: vec![in alloc; NO_ORIGIN; lengths.size()]?,
-            in_turn: InTurn::new(alloc, lengths.size(), places.len())?,
+            origins: vec![in alloc; NO_ORIGIN; lengths.size]?,
+            in_turn: InTurn::new(alloc, lengths.size, places.len())?,
         })
     }
 
@@ -142,7 +142,7 @@ impl State {
     {
         schedule(lengths, &self.quotes, &mut bench.origins);
         bench.begin(terms.ramps, &self.sums);
-        let window = Window::of(lengths.size());
+        let window = Window::of(lengths.size);
         let mut terms = terms;
         terms.ramps = &bench.ramps;
         let pass = Pass {

@@ -48,7 +48,7 @@ pub(crate) const NO_ORIGIN: ScheduledOrigin = ScheduledOrigin {
 /// Puts the origins in the order of how many of their commodities the next pass leaves out, the fewest first.
 pub(crate) fn schedule(lengths: &Lengths, quotes: &[Quote], origins: &mut [ScheduledOrigin]) {
     for i in 0..origins.len() {
-        let quotes = row(quotes, i, lengths.size());
+        let quotes = row(quotes, i, lengths.size);
         let left_out = left_out(quotes, lengths.flows(i));
         origins[i] = ScheduledOrigin {
             left_out,

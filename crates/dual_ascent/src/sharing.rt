@@ -69,10 +69,10 @@ impl OriginDuals {
 
     /// Puts them in place of those of the origin.
     fn put(&self, lengths: &Lengths, quotes: &mut [Quote], values: &mut [u32]) {
-        copy(&self.quotes, row_mut(quotes, self.origin, lengths.size()));
+        copy(&self.quotes, row_mut(quotes, self.origin, lengths.size));
         let values = row_mut(values, self.origin, lengths.origin_values());
         for (number, j) in self.changed.iter().enumerate() {
-            let places = lengths.places();
+            let places = lengths.places;
             copy(
                 row(&self.values, number, places),
                 row_mut(values, *j, places),
@@ -163,7 +163,7 @@ impl<'a> Share<'a> {
         let shared = self.shared;
         let lengths = shared.pass.view.lengths;
         let i = origin_at(shared.pass.origins, place);
-        let mut quotes = row(shared.quotes, i, lengths.size()).to_vec(alloc)?;
+        let mut quotes = row(shared.quotes, i, lengths.size).to_vec(alloc)?;
         let before = row(shared.values, i, lengths.origin_values());
         copy(before, &mut self.values);
         let gain = self.stand.better(
@@ -173,7 +173,7 @@ impl<'a> Share<'a> {
             &mut quotes,
             &mut self.values,
         );
-        let duals = OriginDuals::of(alloc, i, quotes, before, &self.values, lengths.places())?;
+        let duals = OriginDuals::of(alloc, i, quotes, before, &self.values, lengths.places)?;
         self.crop.duals.push(duals)?;
         let changes = self.stand.changes().to_vec(alloc)?;
         self.partner.tell(

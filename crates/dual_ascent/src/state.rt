@@ -200,7 +200,7 @@ impl State {
         let price = self.quotes.get(c).map_or(0, |quote| quote.price);
         let limit = price.saturating_add(price / 64).saturating_add(1);
         let size = self.size.max(1);
-        let legs = Commodity::of(lengths.tables(), c / size, c % size);
+        let legs = Commodity::of(&lengths.tables, c / size, c % size);
         if !legs.is_near(k, limit) {
             return false;
         }
@@ -238,7 +238,7 @@ impl State {
     /// The greatest price that the values of the commodity of this number allow.
     fn greatest_price(&self, lengths: &Lengths, found: &mut PlaceValues, c: usize) -> u32 {
         let size = self.size.max(1);
-        let legs = Commodity::of(lengths.tables(), c / size, c % size);
+        let legs = Commodity::of(&lengths.tables, c / size, c % size);
         found.greatest_price(
             &legs,
             row(&self.values, c, self.places),

@@ -70,7 +70,7 @@ impl Sums {
     /// Where any number of hubs will do and none is inside, some hub is open, which could raise the bound by the least that a free place
     /// costs beyond its load: that needs a number with each cut, which cuts do not have.
     pub fn bound(&self, lengths: &Lengths, sides: &[Side]) -> i128 {
-        match lengths.wanted() {
+        match lengths.wanted {
             None => self.free_bound(lengths, sides),
             Some(hubs) => self.exact_bound(lengths, sides, hubs),
         }

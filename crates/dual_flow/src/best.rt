@@ -140,12 +140,12 @@ impl BestDual {
         let count = self.places.len();
         self.network.begin(count);
         gather(
-            legs.collect(),
+            legs.collect,
             &self.places,
             row_mut(&mut self.collect, 0, count),
         );
         gather(
-            legs.deliver(),
+            legs.deliver,
             &self.places,
             row_mut(&mut self.deliver, 0, count),
         );

@@ -11,5 +11,5 @@ mod moves;
 mod openings;
 mod routes;
 
-pub use moves::LocalSearch;
+pub use moves::{Ground, LocalSearch};
 pub use routes::{Detours, Route, SetRoutes};

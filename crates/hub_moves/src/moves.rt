@@ -10,6 +10,17 @@ use std::thread::Threads;
 /// No search goes round more often.
 const MOST_ROUNDS: usize = 100;
 
+/// Where hubs may move: who works, the instance, and the places that may be opened or closed.
+#[derive(Drop)]
+pub struct Ground<'a, R> {
+    /// Who works.
+    pub workers: &'a Workers<'a, R>,
+    /// The instance.
+    pub lengths: &'a Lengths,
+    /// The places that may be opened or closed.
+    pub movable: &'a [bool],
+}
+
 /// What a local search works with: the set, its routes, the lengths when one of its hubs is closed, and what a place is opened
 /// in.
 #[derive(Drop)]
@@ -48,22 +59,17 @@ impl LocalSearch {
     }
 
     /// Betters the set by moves among the movable places, and gives what it then costs, in 10^-12.
-    pub fn improve<R: Threads + Sync>(
-        &mut self,
-        workers: &Workers<'_, R>,
-        lengths: &Lengths,
-        marks: &[bool],
-        movable: &[bool],
-    ) -> i128 {
+    pub fn improve<R: Threads + Sync>(&mut self, ground: &Ground<'_, R>, marks: &[bool]) -> i128 {
+        let lengths = ground.lengths;
         let mut cost = self.cost(lengths, marks);
         for _ in 0..MOST_ROUNDS {
             let before = cost;
-            if lengths.wanted().is_none() {
-                cost = self.open_all(workers, lengths, movable, cost);
+            if lengths.wanted.is_none() {
+                cost = self.open_all(ground, cost);
             }
-            for h in 0..lengths.places() {
-                if at(&self.set.marks, h) && at(movable, h) {
-                    cost = self.turn(workers, lengths, movable, Some(h), cost);
+            for h in 0..lengths.places {
+                if at(&self.set.marks, h) && at(ground.movable, h) {
+                    cost = self.turn(ground, Some(h), cost);
                 }
             }
             if cost >= before {
@@ -75,39 +81,29 @@ impl LocalSearch {
 
     /// Marks in place of the set what is found by opening one movable place after another, each of them the cheapest to open
     /// then: as many as are wanted, or, where any number will do, as long as that costs less, and unless the set is cheaper.
-    pub fn begin<R: Threads + Sync>(
-        &mut self,
-        workers: &Workers<'_, R>,
-        lengths: &Lengths,
-        movable: &[bool],
-        marks: &mut [bool],
-    ) {
+    pub fn begin<R: Threads + Sync>(&mut self, ground: &Ground<'_, R>, marks: &mut [bool]) {
+        let lengths = ground.lengths;
         let least = self.cost(lengths, marks);
         fill(&mut self.set.marks, false);
         self.set_routes(lengths);
-        let Some(hubs) = lengths.wanted() else {
-            if self.open_all(workers, lengths, movable, i128::MAX) <= least {
+        let Some(hubs) = lengths.wanted else {
+            if self.open_all(ground, i128::MAX) <= least {
                 copy(&self.set.marks, marks);
             }
             return;
         };
         for _ in 0..hubs {
-            let _ = self.turn(workers, lengths, movable, None, i128::MAX);
+            let _ = self.turn(ground, None, i128::MAX);
         }
         copy(&self.set.marks, marks);
     }
 
     /// What one hub is worth about the set that was found last, which costs so much: half of what the cost rises by at least with a
     /// hub less and falls by at most with one more, or one of the two where the other cannot be. It is in 10^-12.
-    pub fn hub_worth<R: Threads + Sync>(
-        &mut self,
-        workers: &Workers<'_, R>,
-        lengths: &Lengths,
-        movable: &[bool],
-        cost: i128,
-    ) -> i128 {
+    pub fn hub_worth<R: Threads + Sync>(&mut self, ground: &Ground<'_, R>, cost: i128) -> i128 {
+        let lengths = ground.lengths;
         let mut least = i128::MAX;
-        for h in 0..lengths.places() {
+        for h in 0..lengths.places {
             if at(&self.set.marks, h) {
                 self.close(lengths, Some(h));
                 least = least.min(self.cost_of_base(lengths, Some(h)));
@@ -115,7 +111,7 @@ impl LocalSearch {
         }
         let rise = least.wrapping_sub(cost);
         self.close(lengths, None);
-        let opened = self.best_move(workers, lengths, movable, None, i128::MAX);
+        let opened = self.best_move(ground, None, i128::MAX);
         let fall = cost.wrapping_sub(opened.cost);
         match (least < i128::MAX, opened.open.is_some()) {
             (true, true) => rise.wrapping_add(fall) / 2,
@@ -136,7 +132,7 @@ impl LocalSearch {
             fixed: 0,
         };
         let mut most = 0;
-        for k in 0..lengths.places() {
+        for k in 0..lengths.places {
             most = routes
                 .wrapping_sub(self.opening.routes_cost(&openings, k))
                 .max(most);
@@ -147,9 +143,9 @@ impl LocalSearch {
     /// Sets each cap to the greatest length that a commodity has when a hub of the set that was found last is left out, or to the most
     /// that a price may be.
     pub fn set_caps(&self, lengths: &Lengths, caps: &mut [u32]) {
-        for i in 0..lengths.size() {
-            for (j, cap) in row_mut(caps, i, lengths.size()).iter_mut().enumerate() {
-                let detours = self.set.routes.detours(lengths.tables(), i, j);
+        for i in 0..lengths.size {
+            for (j, cap) in row_mut(caps, i, lengths.size).iter_mut().enumerate() {
+                let detours = self.set.routes.detours(&lengths.tables, i, j);
                 let most = detours.without_first.max(detours.without_last);
                 *cap = most.min(lengths.most_price());
             }
@@ -157,16 +153,10 @@ impl LocalSearch {
     }
 
     /// Opens hubs as long as the set then costs less, and gives what it costs.
-    fn open_all<R: Threads + Sync>(
-        &mut self,
-        workers: &Workers<'_, R>,
-        lengths: &Lengths,
-        movable: &[bool],
-        cost: i128,
-    ) -> i128 {
+    fn open_all<R: Threads + Sync>(&mut self, ground: &Ground<'_, R>, cost: i128) -> i128 {
         let mut cost = cost;
-        for _ in 0..lengths.places() {
-            let opened = self.turn(workers, lengths, movable, None, cost);
+        for _ in 0..ground.lengths.places {
+            let opened = self.turn(ground, None, cost);
             if opened >= cost {
                 break;
             }
@@ -178,14 +168,13 @@ impl LocalSearch {
     /// Makes the best move that closes this hub, or none, if the set then costs less, and gives what it costs.
     fn turn<R: Threads + Sync>(
         &mut self,
-        workers: &Workers<'_, R>,
-        lengths: &Lengths,
-        movable: &[bool],
+        ground: &Ground<'_, R>,
         closed: Option<usize>,
         cost: i128,
     ) -> i128 {
+        let lengths = ground.lengths;
         self.close(lengths, closed);
-        let found = self.best_move(workers, lengths, movable, closed, cost);
+        let found = self.best_move(ground, closed, cost);
         if found.cost < cost {
             if let Some(h) = closed {
                 put(&mut self.set.marks, h, false);
@@ -199,36 +188,35 @@ impl LocalSearch {
     }
 
     /// The best move that closes this hub, or none, where the set costs so much.
-    fn best_move<'x, R: Threads + Sync>(
+    fn best_move<R: Threads + Sync>(
         &mut self,
-        workers: &Workers<'_, R>,
-        lengths: &'x Lengths,
-        movable: &'x [bool],
+        ground: &Ground<'_, R>,
         closed: Option<usize>,
         cost: i128,
     ) -> Move {
+        let lengths = ground.lengths;
         let mut best = Move { open: None, cost };
-        if closed.is_some() && lengths.wanted().is_none() {
+        if closed.is_some() && lengths.wanted.is_none() {
             best.cost = cost.min(self.cost_of_base(lengths, closed));
         }
         let fixed = self.opening_cost(lengths, closed);
         let openings = Openings {
             lengths,
-            movable,
+            movable: ground.movable,
             set: &self.set,
             closed,
             fixed,
         };
-        openings.best(workers, &mut self.opening, best)
+        openings.best(ground.workers, &mut self.opening, best)
     }
 
     /// Finds the shortest routes over the set.
     fn set_routes(&mut self, lengths: &Lengths) {
-        self.set.routes.take(lengths.tables(), &self.set.marks);
-        for i in 0..lengths.size() {
-            let routes = row_mut(&mut self.shortest, i, lengths.size());
+        self.set.routes.take(&lengths.tables, &self.set.marks);
+        for i in 0..lengths.size {
+            let routes = row_mut(&mut self.shortest, i, lengths.size);
             for j in 0..routes.len() {
-                routes[j] = self.set.routes.shortest(lengths.tables(), i, j);
+                routes[j] = self.set.routes.shortest(&lengths.tables, i, j);
             }
         }
     }
@@ -236,13 +224,13 @@ impl LocalSearch {
     /// Sets the lengths to those over the set without this hub.
     fn close(&mut self, lengths: &Lengths, closed: Option<usize>) {
         let h = closed.unwrap_or(usize::MAX);
-        for i in 0..lengths.size() {
-            let shortest = row(&self.shortest, i, lengths.size());
-            let base = row_mut(&mut self.set.base, i, lengths.size());
+        for i in 0..lengths.size {
+            let shortest = row(&self.shortest, i, lengths.size);
+            let base = row_mut(&mut self.set.base, i, lengths.size);
             let count = base.len().min(shortest.len());
             for j in 0..count {
                 base[j] = if closed.is_some() && shortest[j].uses(h) {
-                    self.set.routes.without(lengths.tables(), i, j, [h, h])
+                    self.set.routes.without(&lengths.tables, i, j, [h, h])
                 } else {
                     shortest[j].length
                 };

@@ -37,10 +37,10 @@ impl OpenSet {
     pub(crate) fn routes_cost(&self, lengths: &Lengths) -> i128 {
         let mut sum = 0u64;
         let mut lacked = 0u64;
-        for i in 0..lengths.size() {
-            let (flows, base) = (lengths.flows(i), row(&self.base, i, lengths.size()));
+        for i in 0..lengths.size {
+            let (flows, base) = (lengths.flows(i), row(&self.base, i, lengths.size));
             sum = sum.wrapping_add(weighed(flows, base));
-            if lengths.tables().has_limit() {
+            if lengths.tables.has_limit() {
                 lacked = lacked.wrapping_add(lacking(flows, base));
             }
         }
@@ -50,7 +50,7 @@ impl OpenSet {
 
 /// What so much flow times length costs, and so many commodities that have no route.
 fn cost_of(lengths: &Lengths, sum: u64, lacked: u64) -> i128 {
-    let lacking = (lacked as i128).wrapping_mul(lengths.lack_cost());
+    let lacking = (lacked as i128).wrapping_mul(lengths.lack_cost);
     (sum as i128)
         .wrapping_mul(lengths.worth())
         .wrapping_add(lacking)
@@ -91,20 +91,24 @@ impl Opening {
 
     /// Sets, by destination, the shortest ways onward from the place, by a hub but the closed one or by none.
     fn set_ways(&mut self, openings: &Openings<'_, '_>, k: usize) {
-        let (tables, routes) = (openings.lengths.tables(), &openings.set.routes);
+        let (tables, routes) = (&openings.lengths.tables, &openings.set.routes);
         fill(&mut self.to_hubs, FAR);
         fill(&mut self.from_hubs, FAR);
-        gather(tables.trunk(k), routes.hubs(), &mut self.to_hubs);
-        gather(tables.trunk_back(k), routes.hubs(), &mut self.from_hubs);
+        gather(tables.legs.trunk.row(k), routes.hubs(), &mut self.to_hubs);
+        gather(
+            tables.legs.trunk_back.row(k),
+            routes.hubs(),
+            &mut self.from_hubs,
+        );
         for (e, h) in routes.hubs().iter().enumerate() {
             if openings.closed == Some(*h) {
                 put(&mut self.to_hubs, e, FAR);
                 put(&mut self.from_hubs, e, FAR);
             }
         }
-        for j in 0..tables.size() {
-            let leg = at(tables.deliver(j), k);
-            let onward = least_sum(&self.to_hubs, routes.deliver(j));
+        for j in 0..tables.size {
+            let leg = at(tables.legs.deliver.row(j), k);
+            let onward = least_sum(&self.to_hubs, routes.deliver.row(j));
             put(&mut self.onward, j, leg.min(onward));
             put(&mut self.last, j, leg);
         }
@@ -114,13 +118,13 @@ impl Opening {
     pub(crate) fn routes_cost(&mut self, openings: &Openings<'_, '_>, k: usize) -> i128 {
         self.set_ways(openings, k);
         let lengths = openings.lengths;
-        let tables = lengths.tables();
+        let tables = &lengths.tables;
         let mut sum = 0u64;
         let mut lacked = 0u64;
-        for i in 0..lengths.size() {
-            let (flows, base) = (lengths.flows(i), row(&openings.set.base, i, lengths.size()));
-            let leg = at(tables.collect(i), k);
-            let turned = leg.min(least_sum(&self.from_hubs, openings.set.routes.collect(i)));
+        for i in 0..lengths.size {
+            let (flows, base) = (lengths.flows(i), row(&openings.set.base, i, lengths.size));
+            let leg = at(tables.legs.collect.row(i), k);
+            let turned = leg.min(least_sum(&self.from_hubs, openings.set.routes.collect.row(i)));
             if !tables.has_limit() {
                 let row = weighed_by(flows, base, leg, &self.onward, turned, &self.last);
                 sum = sum.wrapping_add(row);
@@ -163,9 +167,9 @@ impl<'a, 'b> Openings<'a, 'b> {
         best: Move,
     ) -> Move {
         let lengths = self.lengths;
-        let blocks = short(lengths.places().div_ceil(PLACES_AT_ONCE));
+        let blocks = short(lengths.places.div_ceil(PLACES_AT_ONCE));
         let mut best = best;
-        if workers.count > 1 && lengths.size() >= LEAST_NODES {
+        if workers.count > 1 && lengths.size >= LEAST_NODES {
             let found = answers(
                 workers.rt,
                 workers.alloc,
@@ -194,7 +198,7 @@ impl<'a, 'b> Openings<'a, 'b> {
         let lengths = self.lengths;
         let first = (block as usize).wrapping_mul(PLACES_AT_ONCE);
         let mut best = best;
-        for k in first..first.wrapping_add(PLACES_AT_ONCE).min(lengths.places()) {
+        for k in first..first.wrapping_add(PLACES_AT_ONCE).min(lengths.places) {
             if at(self.movable, k) && !at(&self.set.marks, k) {
                 let routes = opening.routes_cost(self, k);
                 let fixed = self.fixed.wrapping_add(lengths.fixed_cost(k));
@@ -213,7 +217,7 @@ impl<'a, 'b> Openings<'a, 'b> {
     /// The length of the shortest allowed route of a commodity by the place, alone or with a hub but the closed one, if it is
     /// shorter than `now`, or else that. No route by the place is shorter than `least`.
     fn length_with(&self, i: usize, j: usize, k: usize, least: u32, now: u32) -> u32 {
-        let legs = Commodity::of(self.lengths.tables(), i, j);
+        let legs = Commodity::of(&self.lengths.tables, i, j);
         if legs.is_safe(least.wrapping_add(1)) {
             return least;
         }
@@ -238,7 +242,7 @@ impl<'a, 'b> Job<Move> for Openings<'a, 'b> {
     ghost serves = { λ job opening. Unit {0} };
 
     fn new_scratch(&self, alloc: Global) -> Result<Opening, AllocError> {
-        Opening::new(alloc, self.lengths.size(), self.lengths.places())
+        Opening::new(alloc, self.lengths.size, self.lengths.places)
     }
 
     fn at(&self, _alloc: Global, opening: &mut Opening, block: u32) -> Result<Move, AllocError> {

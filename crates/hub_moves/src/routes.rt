@@ -1,6 +1,6 @@
 //! The shortest routes over a hub set, and those that leave one or two of its hubs out.
 
-use ascent_lengths::{Commodity, FAR, Tables, at, fill, gather, row, row_mut, short};
+use ascent_lengths::{Commodity, FAR, Table, Tables, at, fill, gather, row, row_mut, short};
 use std::alloc::{AllocError, Global};
 
 /// A shortest route: its first and its last hub, by place, and its length.
@@ -102,38 +102,25 @@ impl Hops {
 #[derive(Drop)]
 pub struct SetRoutes {
     hubs: Vec<usize>,
-    width: usize,
-    collect: Vec<u32>,
-    deliver: Vec<u32>,
+    pub(crate) collect: Table,
+    pub(crate) deliver: Table,
     hops: Vec<Hops>,
 }
 
 impl SetRoutes {
     /// Routes with room for so many nodes and hubs, as yet of no hubs.
     pub fn new(alloc: Global, size: usize, hubs: usize) -> Result<SetRoutes, AllocError> {
-        let cells = size.wrapping_mul(hubs.div_ceil(8).wrapping_mul(8));
         Ok(SetRoutes {
             hubs: Vec::with_capacity(alloc, hubs)?,
-            width: 0,
-            collect: vec![in alloc; FAR; cells]?,
-            deliver: vec![in alloc; FAR; cells]?,
-            hops: vec![in alloc; NO_HOPS; cells]?,
+            collect: Table::new(alloc, size, hubs)?,
+            deliver: Table::new(alloc, size, hubs)?,
+            hops: vec![in alloc; NO_HOPS; size.wrapping_mul(hubs)]?,
         })
     }
 
     /// The hubs, by place.
     pub fn hubs(&self) -> &[usize] {
         &self.hubs
-    }
-
-    /// The legs of collection from the origin to the hubs.
-    pub(crate) fn collect(&self, i: usize) -> &[u32] {
-        row(&self.collect, i, self.width)
-    }
-
-    /// The legs of delivery from the hubs to the destination.
-    pub(crate) fn deliver(&self, j: usize) -> &[u32] {
-        row(&self.deliver, j, self.width)
     }
 
     /// Makes these the routes over the marked places.
@@ -145,26 +132,31 @@ impl SetRoutes {
                 let _ = self.hubs.push(k);
             }
         }
-        self.width = self.hubs.len().div_ceil(8).wrapping_mul(8);
-        fill(&mut self.collect, FAR);
-        fill(&mut self.deliver, FAR);
-        for i in 0..tables.size() {
-            let collect = row_mut(&mut self.collect, i, self.width);
-            gather(tables.collect(i), &self.hubs, collect);
-            let deliver = row_mut(&mut self.deliver, i, self.width);
-            gather(tables.deliver(i), &self.hubs, deliver);
+        for i in 0..tables.size {
+            fill(self.collect.row_mut(i), FAR);
+            fill(self.deliver.row_mut(i), FAR);
+            gather(
+                tables.legs.collect.row(i),
+                &self.hubs,
+                self.collect.row_mut(i),
+            );
+            gather(
+                tables.legs.deliver.row(i),
+                &self.hubs,
+                self.deliver.row_mut(i),
+            );
             self.take_hops(tables, i);
         }
     }
 
     /// Finds the shortest hops to the destination.
     fn take_hops(&mut self, tables: &Tables, j: usize) {
-        let deliver = tables.deliver(j);
-        for (hops, k) in row_mut(&mut self.hops, j, self.width)
+        let deliver = tables.legs.deliver.row(j);
+        for (hops, k) in row_mut(&mut self.hops, j, self.hubs.len())
             .iter_mut()
             .zip(&self.hubs)
         {
-            let trunk = tables.trunk(*k);
+            let trunk = tables.legs.trunk.row(*k);
             *hops = NO_HOPS;
             for m in &self.hubs {
                 *hops = hops.with(Hop {
@@ -177,8 +169,8 @@ impl SetRoutes {
 
     /// The shortest route, the first in the order of the first hubs.
     pub fn shortest(&self, tables: &Tables, i: usize, j: usize) -> Route {
-        let collect = self.collect(i);
-        let hops = row(&self.hops, j, self.width);
+        let collect = self.collect.row(i);
+        let hops = row(&self.hops, j, self.hubs.len());
         let mut found = NO_ROUTE;
         let hubs = self.hubs.as_slice();
         let count = hubs.len().min(collect.len()).min(hops.len());
@@ -202,8 +194,8 @@ impl SetRoutes {
 
     /// The length of the shortest route by neither place.
     pub(crate) fn without(&self, tables: &Tables, i: usize, j: usize, left_out: [usize; 2]) -> u32 {
-        let collect = self.collect(i);
-        let hops = row(&self.hops, j, self.width);
+        let collect = self.collect.row(i);
+        let hops = row(&self.hops, j, self.hubs.len());
         let hubs = self.hubs.as_slice();
         let [some, other] = left_out;
         let (skipped, too) = (short(some), short(other));
@@ -244,11 +236,11 @@ impl SetRoutes {
 
     /// The shortest route that is allowed and goes by none of these places, or none.
     fn shortest_allowed(&self, legs: &Commodity<'_>, j: usize, left_out: &[usize]) -> Route {
-        let hops = row(&self.hops, j, self.width);
+        let hops = row(&self.hops, j, self.hubs.len());
         let mut found = NO_ROUTE;
         for (k, hops) in self.hubs.iter().zip(hops) {
             // No route by this first hub is shorter.
-            let least = at(legs.collect(), *k).wrapping_add(hops.first.length);
+            let least = at(legs.collect, *k).wrapping_add(hops.first.length);
             if least < found.length && !left_out.contains(k) {
                 let onward = legs.onward(*k);
                 for m in &self.hubs {

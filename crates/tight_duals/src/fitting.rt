@@ -53,11 +53,11 @@ impl Fitting {
         }
         let hubs = marked(marks);
         if hubs > self.room {
-            self.routes = SetRoutes::new(alloc, lengths.size(), hubs)?;
+            self.routes = SetRoutes::new(alloc, lengths.size, hubs)?;
             self.room = hubs;
         }
         copy(marks, &mut self.marks);
-        self.routes.take(lengths.tables(), marks);
+        self.routes.take(&lengths.tables, marks);
         Ok(())
     }
 
@@ -197,7 +197,7 @@ fn add_all<R: Threads + Sync>(
 ) -> Result<(), AllocError> {
     let mut origins = origins;
     let batch = batch(workers);
-    for number in 0..origins.lengths.size().div_ceil(batch) {
+    for number in 0..origins.lengths.size.div_ceil(batch) {
         origins.first = number.wrapping_mul(batch);
         for duals in &fitted(workers, &origins, batch)? {
             sums.add(&duals.sums);
@@ -218,7 +218,7 @@ fn fit_all<R: Threads + Sync>(
 {
     fitting.sums.clear();
     let batch = batch(workers);
-    for number in 0..lengths.size().div_ceil(batch) {
+    for number in 0..lengths.size.div_ceil(batch) {
         let rule = if is_tight {
             Rule::Tight(&fitting.routes)
         } else {
@@ -250,7 +250,7 @@ fn fitted<R: Threads + Sync>(
     origins: &Origins<'_>,
     batch: usize,
 ) -> Result<Vec<Fitted>, AllocError> {
-    let left = origins.lengths.size().saturating_sub(origins.first);
+    let left = origins.lengths.size.saturating_sub(origins.first);
     let count = short(left.min(batch));
     answers(
         workers.rt,

@@ -43,13 +43,13 @@ impl<'a> Origins<'a> {
     /// No duals as yet: the values of the origin where they are to be kept, and all prices and sums 0.
     fn begin(&self, alloc: Global, values: &[u32]) -> Result<Fitted, AllocError> {
         Ok(Fitted {
-            prices: vec![in alloc; 0; self.lengths.size()]?,
+            prices: vec![in alloc; 0; self.lengths.size]?,
             values: if self.is_kept {
                 values.to_vec(alloc)?
             } else {
                 Vec::new(alloc)
             },
-            sums: Sums::new(alloc, self.lengths.places())?,
+            sums: Sums::new(alloc, self.lengths.places)?,
         })
     }
 
@@ -62,7 +62,7 @@ impl<'a> Origins<'a> {
         values: &[u32],
     ) -> Option<u32> {
         let [i, j] = from;
-        let legs = Commodity::of(self.lengths.tables(), i, j);
+        let legs = Commodity::of(&self.lengths.tables, i, j);
         let price = match self.rule {
             Rule::Kept => {
                 found.begin_from(&legs, price, values);
@@ -87,7 +87,7 @@ impl<'a> Origins<'a> {
         let added = flow.wrapping_mul(price as i64);
         duals.sums.total = duals.sums.total.wrapping_add(added);
         add_weighed(flow, values, &mut duals.sums.loads);
-        copy(values, row_mut(&mut duals.values, j, self.lengths.places()));
+        copy(values, row_mut(&mut duals.values, j, self.lengths.places));
     }
 
     /// Takes the dual that was there before from the sums, where these are a change.
@@ -110,7 +110,7 @@ impl<'a> Job<Fitted> for Origins<'a> {
     ghost serves = { λ job scratch. Unit {0} };
 
     fn new_scratch(&self, alloc: Global) -> Result<PlaceValues, AllocError> {
-        PlaceValues::new(alloc, self.lengths.places())
+        PlaceValues::new(alloc, self.lengths.places)
     }
 
     fn at(
@@ -122,10 +122,10 @@ impl<'a> Job<Fitted> for Origins<'a> {
         let lengths = self.lengths;
         let i = self.first.wrapping_add(block as usize);
         let values = row(self.values, i, lengths.origin_values());
-        let quotes = row(self.quotes, i, lengths.size());
+        let quotes = row(self.quotes, i, lengths.size);
         let mut duals = self.begin(alloc, values)?;
         for (j, (flow, quote)) in lengths.flows(i).iter().zip(quotes).enumerate() {
-            let before = row(values, j, lengths.places());
+            let before = row(values, j, lengths.places);
             put(&mut duals.prices, j, quote.price);
             if *flow > 0 {
                 if let Some(price) = self.fit(scratch, [i, j], quote.price, before) {

@@ -11,12 +11,12 @@ use std::alloc::{AllocError, Global};
 pub fn fit_single(alloc: Global, lengths: &Lengths, state: &mut State) -> Result<(), AllocError>
     ensures { KeepsShape state.old state.new }
 {
-    let places = lengths.places();
+    let places = lengths.places;
     let mut sums = Sums::new(alloc, places)?;
-    let mut prices = vec![in alloc; 0; lengths.size()]?;
+    let mut prices = vec![in alloc; 0; lengths.size]?;
     let mut values = vec![in alloc; 0; lengths.origin_values()]?;
     let mut turned = vec![in alloc; 0; places]?;
-    for i in 0..lengths.size() {
+    for i in 0..lengths.size {
         set_turned(lengths, i, &mut turned);
         fill(&mut values, 0);
         for (j, flow) in lengths.flows(i).iter().enumerate() {
@@ -35,10 +35,10 @@ pub fn fit_single(alloc: Global, lengths: &Lengths, state: &mut State) -> Result
 
 /// Sets, by place, the leg of collection, or by how much that of another place is above the trunk leg to it at most.
 fn set_turned(lengths: &Lengths, i: usize, turned: &mut [u32]) {
-    let collect = lengths.tables().collect(i);
+    let collect = lengths.tables.legs.collect.row(i);
     for (k, most) in turned.iter_mut().enumerate() {
         *most = at(collect, k);
-        let trunk = lengths.tables().trunk(k);
+        let trunk = lengths.tables.legs.trunk.row(k);
         for (m, leg) in collect.iter().enumerate() {
             if m != k && *leg < FAR {
                 *most = leg.saturating_sub(at(trunk, m)).max(*most);
@@ -50,7 +50,10 @@ fn set_turned(lengths: &Lengths, i: usize, turned: &mut [u32]) {
 /// Sets the values of a commodity, and gives its price.
 fn fit_one(lengths: &Lengths, from: [usize; 2], turned: &[u32], values: &mut [u32]) -> u32 {
     let [i, j] = from;
-    let (collect, deliver) = (lengths.tables().collect(i), lengths.tables().deliver(j));
+    let (collect, deliver) = (
+        lengths.tables.legs.collect.row(i),
+        lengths.tables.legs.deliver.row(j),
+    );
     let mut price = 0u32;
     for (most, leg) in turned.iter().zip(deliver) {
         price = price.max(most.wrapping_add(*leg));

@@ -21,7 +21,7 @@ fn tight_route(
     values: &[u32],
 ) -> TightRoute {
     let [i, j] = from;
-    let detours = routes.detours(lengths.tables(), i, j);
+    let detours = routes.detours(&lengths.tables, i, j);
     let route = detours.route;
     let (k, m) = (route.first, route.last);
     let most = lengths.most_price();
@@ -58,7 +58,7 @@ pub(crate) fn is_tight(
         sum = sum.wrapping_add(at(values, *k));
     }
     routes
-        .shortest(lengths.tables(), i, j)
+        .shortest(&lengths.tables, i, j)
         .length
         .wrapping_add(sum)
         == price
@@ -74,7 +74,7 @@ pub(crate) fn begin_tight(
     found: &mut PlaceValues,
 ) -> u32 {
     let [i, j] = from;
-    let legs = Commodity::of(lengths.tables(), i, j);
+    let legs = Commodity::of(&lengths.tables, i, j);
     let tight = tight_route(routes, lengths, from, values);
     found.begin_from(&legs, tight.price, values);
     for k in routes.hubs() {
