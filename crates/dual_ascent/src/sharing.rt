@@ -89,16 +89,6 @@ struct Crop {
     gain: Gain,
 }
 
-/// A pass of partners was given up: memory ran out, or what one was to tell did not come.
-#[derive(Drop)]
-pub(crate) struct GivenUp;
-
-impl From<AllocError> for GivenUp {
-    fn from(_error: AllocError) -> GivenUp {
-        GivenUp
-    }
-}
-
 /// What partners share: the pass, duals and sums as it begins, and the numbers of the next turns.
 #[derive(Clone, Copy)]
 struct Shared<'a> {
@@ -144,10 +134,10 @@ impl<'a> Share<'a> {
     }
 
     // Takes what the origins before this place brought into the sums.
-    fn settle(&mut self, place: usize) -> Result<(), GivenUp> {
+    fn settle(&mut self, place: usize) -> Result<(), AllocError> {
         for before in self.over..place {
             let Some(told) = self.partner.awaited(before as u64)? else {
-                return Err(GivenUp);
+                return Err(AllocError);
             };
             let sums = &mut self.crop.sums;
             sums.total = sums.total.wrapping_add(told.gain.prices);
@@ -187,13 +177,14 @@ impl<'a> Share<'a> {
     }
 
     // Follows the pass to its end.
-    fn follow(mut self, alloc: Global) -> Result<Crop, GivenUp> {
+    fn follow(mut self, alloc: Global) -> Result<Crop, AllocError> {
         let window = self.shared.pass.window;
         let origins = self.shared.pass.origins.len();
         for _ in 0..origins {
-            let Some(place) = place_of(self.partner.ticket(), origins) else {
+            let place = self.partner.ticket().min(origins as u64) as usize;
+            if place >= origins {
                 break;
-            };
+            }
             let over = window.over_before(place);
             self.settle(over)?;
             self.better(alloc, place)?;
@@ -203,29 +194,18 @@ impl<'a> Share<'a> {
     }
 }
 
-/// The place of a turn, if there are so many.
-fn place_of(turn: u64, places: usize) -> Option<usize> {
-    if turn < places as u64 {
-        Some(turn as usize)
-    } else {
-        None
-    }
-}
-
 impl<'a> Shared<'a> {
     /// Follows the pass from this desk, and says so when it is at the end of it, or gave up.
-    fn follow(self, alloc: Global, desk: Desk<(), Bettered>) -> Result<Crop, GivenUp> {
-        let followed = self.follow_from(alloc, desk);
+    fn follow(self, alloc: Global, desk: Desk<(), Bettered>) -> Result<Crop, AllocError> {
+        let followed = match Share::new(alloc, self, desk) {
+            Ok(share) => share.follow(alloc),
+            Err(error) => Err(error),
+        };
         match followed {
             Ok(_) => self.tickets.finish(),
             Err(_) => self.tickets.end(),
         }
         followed
-    }
-
-    fn follow_from(self, alloc: Global, desk: Desk<(), Bettered>) -> Result<Crop, GivenUp> {
-        let share = Share::new(alloc, self, desk)?;
-        share.follow(alloc)
     }
 }
 
@@ -236,17 +216,17 @@ fn together<R: Threads + Sync>(
     alloc: Global,
     shared: Shared<'_>,
     mut desks: Vec<Desk<(), Bettered>>,
-) -> Result<Crop, GivenUp> {
+) -> Result<Crop, AllocError> {
     let Some(desk) = desks.pop() else {
-        return Err(GivenUp);
+        return Err(AllocError);
     };
     if desks.is_empty() {
         return shared.follow(alloc, desk);
     }
-    let others = move || -> Result<Crop, GivenUp>
+    let others = move || -> Result<Crop, AllocError>
         requires { IsSync R.row }
     { together(rt, alloc, shared, desks) };
-    let mine = move || -> Result<Crop, GivenUp> { shared.follow(alloc, desk) };
+    let mine = move || -> Result<Crop, AllocError> { shared.follow(alloc, desk) };
     let (others, mine) = join(rt, others, mine);
     let mut crop = mine?;
     let mut more = others?;
@@ -262,7 +242,7 @@ pub(crate) fn better_together<R: Threads + Sync>(
     quotes: &mut [Quote],
     values: &mut [u32],
     sums: &mut Sums,
-) -> Result<Gain, GivenUp> {
+) -> Result<Gain, AllocError> {
     let count = workers.many().min(short(pass.window.origins));
     let desks = desks(workers.alloc, (), count)?;
     let tickets = Tickets::new();
