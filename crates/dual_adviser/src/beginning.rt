@@ -13,7 +13,7 @@ use tight_duals::{Scope, fit_single};
 
 /// In so many first passes at the root the start set sets caps and least prices.
 const EARLY_PASSES: usize = 3;
-/// So often the core is chosen anew at the root, in passes, from the second on.
+/// So often the core is chosen anew at the root, in passes, after the first few; a wide one is chosen after the first pass.
 const ROOT_AGE: usize = 6;
 /// A core that has seen so many passes below the root is chosen anew.
 const MOST_AGE: usize = 12;
@@ -158,7 +158,7 @@ impl Adviser {
     {
         let passes = self.progress.passes();
         let is_due = if self.progress.is_root {
-            passes % ROOT_AGE == 1
+            passes == 1 || passes % ROOT_AGE == EARLY_PASSES
         } else {
             self.node.is_whole() || self.node.age >= MOST_AGE
         };
@@ -166,7 +166,7 @@ impl Adviser {
         if is_due || self.node.wants_others(&self.state.sums().loads) {
             self.complete(workers)?;
             self.node.age = 1;
-            let reach = if self.progress.is_root && passes < ROOT_AGE {
+            let reach = if self.progress.is_root && passes < EARLY_PASSES {
                 FULL_PRICE
             } else {
                 REACH
