@@ -13,7 +13,7 @@ use tight_duals::{Scope, fit_single};
 
 /// In so many first passes at the root the start set sets caps and least prices.
 const EARLY_PASSES: usize = 3;
-/// So often the core is chosen anew at the root, in passes, after the first few; a wide one is chosen after the first pass.
+/// So often the core is chosen anew at the root, in passes, after the first pass and after the first few.
 const ROOT_AGE: usize = 6;
 /// A core that has seen so many passes below the root is chosen anew.
 const MOST_AGE: usize = 12;
@@ -166,13 +166,8 @@ impl Adviser {
         if is_due || self.node.wants_others(&self.state.sums().loads) {
             self.complete(workers)?;
             self.node.age = 1;
-            let reach = if self.progress.is_root && passes < EARLY_PASSES {
-                FULL_PRICE
-            } else {
-                REACH
-            };
             if self.scale(wanted) >= wanted {
-                self.node.choose_core(&self.state.sums().loads, reach);
+                self.node.choose_core(&self.state.sums().loads, REACH);
             }
         }
         if self.bench.core().places() != self.node.core.as_slice() {
