@@ -84,10 +84,11 @@ impl Progress {
         Some(self.gain.promised / all / LITTLE_PART)
     }
 
-    /// Tells whether the last pass, of few turns for so many commodities, brought little, where the bound is to come to
-    /// this.
+    /// Tells whether the last pass of a root, of few turns for so many commodities, brought little, where the bound is to come to
+    /// this. Below the root a node is mostly left then.
     pub(crate) fn is_idle(&self, commodities: usize, wanted: i128) -> bool {
-        self.gain.turns < commodities as u64 / 8
+        self.is_root
+            && self.gain.turns < commodities as u64 / 8
             && self.tops.len() > 1
             && self.gained(1) < self.left(wanted) / LITTLE_GAIN
     }
