@@ -10,7 +10,7 @@ use crate::node::Node;
 use crate::progress::Progress;
 use crate::sets::Sets;
 use ascent_lengths::{Lengths, PlaceValues, Workers, copy};
-use dual_ascent::{Bench, State};
+use dual_ascent::{Bench, State, Turned};
 use hub_model::Instance;
 use hub_moves::LocalSearch;
 use search_advice::{Advice, Side};
@@ -145,10 +145,11 @@ impl Advice for Adviser {
         self.branch = None;
         match self.node.turned_place(sides) {
             None => self.state.end_waits(),
-            Some(k) => {
-                let is_opened = sides.get(k).copied() == Some(Side::In);
+            Some(place) => {
+                let is_opened = sides.get(place).copied() == Some(Side::In);
+                let turned = Turned { place, is_opened };
                 self.state
-                    .end_waits_at(&self.lengths, &mut self.found, k, is_opened);
+                    .end_waits_at(&self.lengths, &mut self.found, turned);
             }
         }
         copy(sides, &mut self.node.sides);

@@ -5,7 +5,7 @@ ghost use Rattle.dual_ascent.specs.Shapes.{KeepsShape};
 
 use crate::adviser::Adviser;
 use ascent_lengths::{Lengths, Workers, put};
-use dual_ascent::{Trial, Tried};
+use dual_ascent::{Trial, Tried, Turned};
 use dual_flow::FULL_PRICE;
 use search_advice::Side;
 use std::alloc::{AllocError, Global};
@@ -94,8 +94,10 @@ impl Adviser {
             state: &mut self.state,
             found: &mut self.found,
             listed: &self.listed,
-            place,
-            is_opened: side == Side::In,
+            turned: Turned {
+                place,
+                is_opened: side == Side::In,
+            },
         };
         let rise = trial.rise(
             workers,

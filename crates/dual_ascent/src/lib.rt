@@ -30,7 +30,7 @@ mod waits;
 pub use origins::Terms;
 pub use passes::Bench;
 pub use ramps::{NO_RAMP, NO_TURN, Ramp, Slope, Turn, set_order, set_prices};
-pub use state::State;
+pub use state::{State, Turned};
 pub use sums::Sums;
 pub use trials::{Trial, Tried};
 pub use waits::{Gain, NO_GAIN, Quote};

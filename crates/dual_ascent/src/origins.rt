@@ -128,9 +128,8 @@ impl Stand {
     fn begin(&mut self, view: View<'_>, loads: &[i64]) {
         let terms = view.terms;
         let extra = terms.extra_at(loads);
-        let count = self.start.len().min(loads.len());
-        for place in 0..count {
-            self.start[place] = loads[place].wrapping_sub(extra);
+        for (start, load) in self.start.iter_mut().zip(loads) {
+            *start = load.wrapping_sub(extra);
         }
         copy(&self.start, &mut self.loads);
         set_order(terms.ramps, &self.start, 0, &mut self.order);

@@ -136,76 +136,41 @@ impl State {
         }
     }
 
-    /// Ends the waits of the commodities that could gain where the place is opened, or closed.
-    pub fn end_waits_at(
-        &mut self,
-        lengths: &Lengths,
-        found: &mut PlaceValues,
-        k: usize,
-        is_opened: bool,
-    )
+    /// Ends the waits of the commodities that could gain where a place is turned.
+    pub fn end_waits_at(&mut self, lengths: &Lengths, found: &mut PlaceValues, turned: Turned)
         ensures { KeepsShape self.old self.new }
     {
-        for c in 0..self.quotes.len() {
-            if self.could_gain(lengths, found, c, k, is_opened) {
-                self.quotes[c].wait = NO_WAIT;
+        let places = self.places;
+        for (c, quote) in self.quotes.iter_mut().enumerate() {
+            let values = row(&self.values, c, places);
+            if turned.could_gain(lengths, found, [c, quote.price as usize], values) {
+                quote.wait = NO_WAIT;
             }
         }
     }
 
-    /// Leaves all commodities out of the next passes but those among the listed that could gain where the place is opened, or
-    /// closed.
+    /// Leaves all commodities out of the next passes but those among the listed that could gain where a place is turned.
     pub(crate) fn leave_out_others(
         &mut self,
         lengths: &Lengths,
         found: &mut PlaceValues,
         listed: &[usize],
-        k: usize,
-        is_opened: bool,
+        turned: Turned,
     )
         ensures { KeepsShape self.old self.new }
     {
         for quote in self.quotes.iter_mut() {
             quote.wait = LONG_WAIT;
         }
+        let (places, quotes) = (self.places, &mut self.quotes);
         for c in listed {
-            if self.could_gain(lengths, found, *c, k, is_opened) {
-                if let Some(quote) = self.quotes.get_mut(*c) {
+            let values = row(&self.values, *c, places);
+            if let Some(quote) = quotes.get_mut(*c) {
+                if turned.could_gain(lengths, found, [*c, quote.price as usize], values) {
                     quote.wait = NO_WAIT;
                 }
             }
         }
-    }
-
-    /// Tells whether the dual of the commodity of this number could gain where the place is opened, since it has a value, or
-    /// closed, since it has one or some route by it is nearly as short as the values allow.
-    fn could_gain(
-        &self,
-        lengths: &Lengths,
-        found: &mut PlaceValues,
-        c: usize,
-        k: usize,
-        is_opened: bool,
-    ) -> bool {
-        if lengths.flow(c) == 0 {
-            return false;
-        }
-        let values = row(&self.values, c, self.places);
-        if at(values, k) > 0 {
-            return true;
-        }
-        if is_opened {
-            return false;
-        }
-        let price = self.quotes.get(c).map_or(0, |quote| quote.price);
-        let limit = price.saturating_add(price / 64).saturating_add(1);
-        let size = self.size.max(1);
-        let legs = Commodity::of(&lengths.tables, c / size, c % size);
-        if !legs.is_near(k, limit) {
-            return false;
-        }
-        found.begin_from(&legs, price, values);
-        found.shortest_by(&legs, k) < limit
     }
 
     /// Begins with these values, a number for each place of each commodity in order, none of them above any price, and
@@ -220,30 +185,18 @@ impl State {
         }
         fill(&mut self.quotes, NO_QUOTE);
         self.sums.clear();
-        for c in 0..self.quotes.len() {
-            if lengths.flow(c) > 0 {
-                let price = self.greatest_price(lengths, found, c);
-                self.quotes[c].price = price;
-                let flow = lengths.flow(c) as i64;
-                self.sums.total = self
-                    .sums
-                    .total
-                    .wrapping_add(flow.wrapping_mul(price as i64));
-                let values = row(&self.values, c, self.places);
+        let (size, places) = (self.size.max(1), self.places);
+        for (c, quote) in self.quotes.iter_mut().enumerate() {
+            let flow = lengths.flow(c) as i64;
+            if flow > 0 {
+                let values = row(&self.values, c, places);
+                let legs = Commodity::of(&lengths.tables, c / size, c % size);
+                quote.price = found.greatest_price(&legs, values, lengths.most_price());
+                let added = flow.wrapping_mul(quote.price as i64);
+                self.sums.total = self.sums.total.wrapping_add(added);
                 ascent_lengths::add_weighed(flow, values, &mut self.sums.loads);
             }
         }
-    }
-
-    /// The greatest price that the values of the commodity of this number allow.
-    fn greatest_price(&self, lengths: &Lengths, found: &mut PlaceValues, c: usize) -> u32 {
-        let size = self.size.max(1);
-        let legs = Commodity::of(&lengths.tables, c / size, c % size);
-        found.greatest_price(
-            &legs,
-            row(&self.values, c, self.places),
-            lengths.most_price(),
-        )
     }
 
     /// Gives each commodity without flow whose way back has the flow of both the values of this.
@@ -272,5 +225,40 @@ impl State {
             let value = at(row(&self.values, from, places), k);
             ascent_lengths::put(row_mut(&mut self.values, to, places), k, value);
         }
+    }
+}
+
+/// A place that is opened, or closed.
+#[derive(Clone, Copy)]
+pub struct Turned {
+    /// The place.
+    pub place: usize,
+    /// Whether it is opened.
+    pub is_opened: bool,
+}
+
+impl Turned {
+    /// Tells whether the dual of a commodity, told by its number and price, could gain then: it has a value there, or the place is closed
+    /// and some route by it is nearly as short as the values allow.
+    fn could_gain(
+        &self,
+        lengths: &Lengths,
+        found: &mut PlaceValues,
+        commodity: [usize; 2],
+        values: &[u32],
+    ) -> bool {
+        let [c, price] = commodity;
+        if lengths.flow(c) == 0 || at(values, self.place) > 0 || self.is_opened {
+            return lengths.flow(c) > 0 && at(values, self.place) > 0;
+        }
+        let price = ascent_lengths::short(price);
+        let limit = price.saturating_add(price / 64).saturating_add(1);
+        let size = lengths.size.max(1);
+        let legs = Commodity::of(&lengths.tables, c / size, c % size);
+        if !legs.is_near(self.place, limit) {
+            return false;
+        }
+        found.begin_from(&legs, price, values);
+        found.shortest_by(&legs, self.place) < limit
     }
 }

@@ -5,7 +5,7 @@ ghost use Rattle.dual_ascent.specs.Shapes.{KeepsShape};
 use crate::core::Core;
 use crate::origins::Terms;
 use crate::passes::Bench;
-use crate::state::State;
+use crate::state::{State, Turned};
 use crate::sums::Sums;
 use crate::waits::Quote;
 use ascent_lengths::{Lengths, PlaceValues, Workers, at, put, row, row_mut};
@@ -74,10 +74,9 @@ impl Trial {
             state,
             found,
             listed,
-            place,
-            is_opened,
+            turned,
         } = tried;
-        state.leave_out_others(lengths, found, listed, place, is_opened);
+        state.leave_out_others(lengths, found, listed, turned);
         let before = state.objective(terms);
         let _ = state.pass(workers, lengths, terms, bench);
         let after = state.objective(terms);
@@ -95,8 +94,6 @@ pub struct Tried<'a> {
     pub found: &'a mut PlaceValues,
     /// The commodities that it turns to, as those of the trial.
     pub listed: &'a [usize],
-    /// The place.
-    pub place: usize,
-    /// Whether it is opened.
-    pub is_opened: bool,
+    /// The place that is opened or closed.
+    pub turned: Turned,
 }

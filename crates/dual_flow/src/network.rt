@@ -63,13 +63,9 @@ impl Copies {
 
     /// Begins a search at so many of these copies, at those with room.
     fn leave(&mut self, width: usize) {
-        let count = width.min(self.capacities.len());
-        let count = count.min(self.distances.len()).min(self.turns.len());
-        for x in 0..count {
-            let has_room = self.capacities[x] > 0;
-            self.distances[x] = if has_room { 0 } else { NONE };
-            self.turns[x] = if has_room { 0 } else { NEVER };
-        }
+        let rooms = row(&self.capacities, 0, width);
+        set_where_room(rooms, 0, NONE, &mut self.distances);
+        set_where_room(rooms, 0, NEVER, &mut self.turns);
     }
 
     /// Takes this much from what may still flow through the copy, and tells whether nothing is left.
@@ -344,6 +340,14 @@ impl Network {
             return None;
         }
         Some(first.max(0) as usize)
+    }
+}
+
+/// Sets each number to this where there is room, or else to the other.
+fn set_where_room(rooms: &[i32], there: i32, elsewhere: i32, into: &mut [i32]) {
+    let count = rooms.len().min(into.len());
+    for x in 0..count {
+        into[x] = if rooms[x] > 0 { there } else { elsewhere };
     }
 }
 
