@@ -3,7 +3,7 @@
 ghost use Rattle.dual_ascent.specs.Shapes.{KeepsShape};
 
 use crate::node::Node;
-use ascent_lengths::{at, copy, fill, put, row, row_mut, short};
+use ascent_lengths::{at, copy, row, short};
 use dual_ascent::{Quote, State, Sums};
 use search_advice::Side;
 use std::alloc::{AllocError, Global};
@@ -52,19 +52,17 @@ impl SparseValues {
         let _ = self.counts.push(short(count));
     }
 
-    /// Puts the values in place of those of the list.
-    fn put_into(&self, places: usize, values: &mut [u32]) {
+    /// Puts the values in place of those of the duals.
+    fn put_into(&self, state: &mut State)
+        ensures { KeepsShape state.old state.new }
+    {
         let mut first = 0usize;
-        fill(values, 0);
+        state.clear_values();
         for commodity in 0..self.counts.len() {
             let end = first.wrapping_add(at(&self.counts, commodity) as usize);
-            let values = row_mut(values, commodity, places);
             for entry in first..end {
-                put(
-                    values,
-                    at(&self.places, entry) as usize,
-                    at(&self.values, entry),
-                );
+                let k = at(&self.places, entry) as usize;
+                state.put_value(commodity, k, at(&self.values, entry));
             }
             first = end;
         }
@@ -111,9 +109,8 @@ impl Memory {
     pub(crate) fn recall(&self, state: &mut State, node: &mut Node)
         ensures { KeepsShape state.old state.new }
     {
-        let places = state.places();
         state.take_quotes(&self.quotes);
-        self.values.put_into(places, state.values_mut());
+        self.values.put_into(state);
         state.take_sums(&self.sums);
         copy(&self.sides, &mut node.sides);
         copy(&self.prices, &mut node.prices);

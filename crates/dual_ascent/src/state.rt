@@ -58,11 +58,18 @@ impl State {
         &self.values
     }
 
-    /// The values, to be written.
-    pub fn values_mut(&mut self) -> &mut [u32]
+    /// Makes all values 0.
+    pub fn clear_values(&mut self)
         ensures { KeepsShape self.old self.new }
     {
-        &mut self.values
+        fill(&mut self.values, 0);
+    }
+
+    /// Sets the value of a place for the commodity of this number.
+    pub fn put_value(&mut self, commodity: usize, k: usize, value: u32)
+        ensures { KeepsShape self.old self.new }
+    {
+        ascent_lengths::put(row_mut(&mut self.values, commodity, self.places), k, value);
     }
 
     /// The prices and waits, commodity by commodity.
