@@ -38,7 +38,7 @@ def common_words() -> Parser:
 
 def parser() -> Parser:
     """The command line."""
-    top = Parser(prog="convert", description=__doc__.split(": ")[1], epilog=EPILOG)
+    top = Parser(description=__doc__.split(": ")[1], epilog=EPILOG)
     kinds = top.add_subparsers(dest="kind", required=True, metavar="KIND")
     common = common_words()
     named = Parser(add_help=False, parents=[common])
@@ -61,7 +61,10 @@ def parser() -> Parser:
 def add_tables(words: argparse.ArgumentParser) -> None:
     """Puts what `read_tables` reads on a command line."""
     add = words.add_argument
-    columns = "a CSV table with the columns name, x and y or longitude and latitude, and fixed where there are costs"
+    columns = (
+        "a CSV table with the columns name, x and y or longitude and latitude, fixed where there are costs, and"
+        " existing where hubs exist, whose costs count as 0"
+    )
     add("node_table", type=Path, metavar="NODES", help=columns)
     columns = "one with the columns origin, destination, amount; a pair without a row has no flow"
     add("flow_table", type=Path, metavar="FLOWS", help=columns)
@@ -95,17 +98,19 @@ def read_tables(node_table: Path, flow_table: Path, delimiter: str = ",") -> Sou
     if nodes.points and nodes.places:
         raise at(node_table, 1, "'x' and 'y', or 'longitude' and 'latitude'", "both")
     flows = read_flows(flow_table, nodes.names, delimiter)
-    return Source(nodes.names, flows, points=nodes.points, places=nodes.places, fixed=nodes.fixed)
+    places = {"points": nodes.points, "places": nodes.places}
+    return Source(nodes.names, flows, **places, fixed=nodes.fixed, existing=nodes.existing)
 
 
 def with_names(source: Source, path: Path) -> Source:
-    """The source with the names of a table, and its places where the source has none."""
+    """The source with the names of a table and the hubs that exist, and its places where the source has none."""
     table = read_nodes(path)
     if len(table.names) != source.size():
         raise Fault(f"{path}: wanted {source.size()} nodes, found {len(table.names)}")
+    source = replace(source, names=table.names, existing=table.existing)
     if source.points or source.places:
-        return replace(source, names=table.names)
-    return replace(source, names=table.names, points=table.points, places=None if table.points else table.places)
+        return source
+    return replace(source, points=table.points, places=None if table.points else table.places)
 
 
 def chosen(source: Source, first: int | None, only: str | None) -> list[int]:
@@ -155,6 +160,9 @@ def name_rows(source: Source) -> list[list[str]]:
     places = source.points or source.places
     columns = [] if not places else ["x", "y"] if source.points else ["longitude", "latitude"]
     rows = [[str(i + 1), name, *(places[i] if places else ())] for i, name in enumerate(source.names)]
+    if source.existing:
+        columns = [*columns, "existing"]
+        rows = [[*row, "yes" if exists else ""] for row, exists in zip(rows, source.existing)]
     return [["node", "name", *columns], *rows]
 
 
@@ -170,7 +178,9 @@ def solve_words(source: Source, layout: str, tail: bool, out: str) -> list[str]:
 
 
 def converted(source: Source, layout: str, tail: bool, out: str) -> dict[Path, str]:
-    """The files of a source in a layout: the instance, the names, and the costs where it has them beside."""
+    """The files of a source in a layout: the instance, the names, and the costs where it has them beside. Hubs that
+    exist cost 0 there."""
+    source = source.spent()
     instance = "".join(" ".join(line) + "\n" for line in instance_lines(source, layout, tail))
     texts = {Path(f"{out}.txt"): instance, Path(f"{out}.names.csv"): table_text(name_rows(source))}
     if source.fixed and not tail:

@@ -12,6 +12,8 @@ from .faults import Fault, at
 from .quantities import COORDINATE, FIXED_COST, FLOW, LATITUDE, LONGITUDE, SIZE, Quantity
 from .tokens import read_text
 
+YES, NO = ("yes", "1"), ("no", "0", "")
+"""What the cells of the column `existing` may say."""
 ALIASES = {"lon": "longitude", "lng": "longitude", "lat": "latitude"}
 
 
@@ -70,10 +72,13 @@ class NodeTable:
     points: list[tuple[str, str]] | None
     places: list[tuple[str, str]] | None
     fixed: list[str] | None
+    existing: list[bool] | None
+    """Which nodes have a hub already."""
 
 
 def read_nodes(path: Path, delimiter: str = ",") -> NodeTable:
-    """A table of nodes: `name`, with `x` and `y` or `longitude` and `latitude`, and `fixed`, where they stand."""
+    """A table of nodes: `name`, with `x` and `y` or `longitude` and `latitude`, `fixed` and `existing`, where they
+    stand."""
     rows = list(read_table(path, ["name"], delimiter))
     if not 1 <= len(rows) <= SIZE.most:
         raise Fault(f"{path}: wanted 1 to {SIZE.most} nodes, found {len(rows)}")
@@ -94,7 +99,16 @@ def read_nodes(path: Path, delimiter: str = ",") -> NodeTable:
         pairs(column("x", COORDINATE), column("y", COORDINATE)),
         pairs(column("longitude", LONGITUDE), column("latitude", LATITUDE)),
         column("fixed", FIXED_COST),
+        [is_marked(row, "existing") for row in rows] if "existing" in rows[0].cells else None,
     )
+
+
+def is_marked(row: Row, column: str) -> bool:
+    """Whether the cell of this column says yes; an empty one says no."""
+    cell = row.cells[column].lower()
+    if cell not in (*YES, *NO):
+        raise row.fault(column, "yes or no")
+    return cell in YES
 
 
 def read_flows(path: Path, names: list[str], delimiter: str = ",") -> list[list[str]]:

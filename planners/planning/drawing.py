@@ -21,6 +21,9 @@ from .loads import Links
 from .tables import Named
 
 HUB, NODE, TRUNK, SPOKE = "#c8401f", "#5b8db8", "#1f3b63", "#8c8c8c"
+NEW = {"edgecolors": "white", "linewidths": 0.6}
+EXISTS = {"edgecolors": "black", "linewidths": 1.8}
+"""The rims of marks: of places that exist as hubs, and of all others."""
 FLOW_UNITS = 10**6
 HUB_FIRST = 0.35
 """A mark lies on a hub's only if its flow is smaller than this part of the hub's."""
@@ -88,6 +91,7 @@ class Map:
         self.trunks = {pair: self.trunks[pair] for pair in strongest}
         self.spokes = both_ways([self.network.collection, self.network.delivery])
         self.hubs = self.network.plan.hubs
+        self.existing = named.existing
 
     def radius(self, flow: float) -> float:
         """A node's radius in points: its area tells its flow."""
@@ -113,8 +117,7 @@ class Map:
                 s=(2 * self.radius_of(node)) ** 2,
                 marker="s" if hub else "o",
                 color=HUB if hub else NODE,
-                edgecolors="white",
-                linewidths=0.6,
+                **(EXISTS if node in self.existing else NEW),
                 zorder=3,
             )
         axes.set_aspect("equal", adjustable="datalim")
@@ -157,6 +160,10 @@ class Map:
             mark = Line2D([], [], marker="o", ls="", color=NODE, markersize=2 * self.radius(flow))
             entries.append((mark, f"flow {readable(flow)}"))
         entries.append((Line2D([], [], marker="s", ls="", color=HUB, markersize=2 * self.style.largest * 0.7), "hub"))
+        if self.existing:
+            mark = Line2D([], [], marker="s", ls="", color=HUB, markersize=2 * self.style.largest * 0.7)
+            mark.set(markeredgecolor=EXISTS["edgecolors"], markeredgewidth=EXISTS["linewidths"])
+            entries.append((mark, "existing, its cost\ncounts as 0"))
         most = max(self.trunks.values(), default=0)
         for flow in steps(most):
             entries.append(

@@ -25,6 +25,11 @@ class NoNetwork(Fault):
         self.destination = destination
 
 
+def called() -> str:
+    """The name of the running script: `study`, or `hub-study` where the package is installed."""
+    return Path(sys.argv[0]).name
+
+
 class Parser(argparse.ArgumentParser):
     """A command line whose faults are one line too."""
 
@@ -39,8 +44,9 @@ def at(path: Path | str, line: int, wanted: str, found: str | None) -> Fault:
     return Fault(f"{path}:{line}: wanted {wanted}, {seen}")
 
 
-def end(name: str, module: str) -> None:
+def end(module: str) -> None:
     """Runs the `main` of a module of this package and ends the process with its status."""
+    name = called()
     try:
         status = import_module(f".{module}", __package__).main(sys.argv[1:])
         sys.stdout.flush()

@@ -9,13 +9,18 @@ from .options import options_of
 from .tables import add_accepted, read_named
 
 
+def parser() -> Parser:
+    """The command line."""
+    words = Parser(description="a picture of a network: nodes, hubs, trunks and spokes", epilog=EPILOG)
+    add_accepted(words)
+    words.add_argument("--title", default="", help="a line above the cost")
+    words.add_argument("--out", required=True, help="the picture: a name that ends in .svg, .png or .pdf")
+    return words
+
+
 def main(words: list[str]) -> int:
     """Draws a network."""
-    parser = Parser(prog="map", description="a picture of a network: nodes, hubs, trunks and spokes", epilog=EPILOG)
-    add_accepted(parser)
-    parser.add_argument("--title", default="", help="a line above the cost")
-    parser.add_argument("--out", required=True, help="the picture: a name that ends in .svg, .png or .pdf")
-    args = parser.parse_args(words)
+    args = parser().parse_args(words)
     path = picture_path(args.out)
     pythons.want("numpy", "matplotlib")
     from .drawing import picture, picture_bytes

@@ -9,6 +9,7 @@ from pathlib import Path
 from typing import TYPE_CHECKING
 
 from . import pythons
+from .alternatives import Alternatives
 from .faults import Fault, Parser
 from .files import put_all
 from .loads import FIXED_UNITS, Network
@@ -48,7 +49,9 @@ def hub_rows(network: Network) -> list[dict[str, str]]:
     ]
 
 
-def page_data(named: Named, places: "np.ndarray", note: str) -> dict[str, object]:
+def page_data(
+    named: Named, places: "np.ndarray", note: str, found: Alternatives | None
+) -> dict[str, object]:
     """What the script of the page works with; nodes from 0. Rows of numbers are texts, which are read faster."""
     network, hubs = named.network, named.network.plan.hubs
     number = {hub: place for place, hub in enumerate(hubs)}
@@ -60,6 +63,8 @@ def page_data(named: Named, places: "np.ndarray", note: str) -> dict[str, object
         "extent": extent,
         "note": note.replace("\n", " "),
         "hubs": hubs,
+        "whatIf": found.data() if found else [],
+        "existing": sorted(named.existing),
         "hubRows": hub_rows(network),
         "trunkRows": [
             [start, stop, trimmed(flow_text(load.flow)), trimmed(cost_text(load.cost))]
@@ -86,16 +91,19 @@ def verdict_text(named: Named) -> str:
     )
 
 
-def page_text(named: Named, places: "np.ndarray", note: str, title: str, command: str) -> str:
+def page_text(
+    named: Named, places: "np.ndarray", note: str, title: str, command: str, found: Alternatives | None = None
+) -> str:
     """The whole page; `command` has the words with which its certificate is checked again."""
     size, hubs = len(named.names), len(named.network.plan.hubs)
     # No "<" of a name can end the script element that holds the data.
-    data = json.dumps(page_data(named, places, note), ensure_ascii=False, separators=(",", ":")).replace("<", "\\u003c")
+    data = json.dumps(page_data(named, places, note, found), ensure_ascii=False, separators=(",", ":")).replace("<", "\\u003c")
     texts = {
         "title": html.escape(title or f"A network of {size} places and {hubs} hub{'s' * (hubs != 1)}"),
         "status": "optimal" if named.verdict.is_optimal() else "bounds",
         "verdict": html.escape(verdict_text(named)),
         "line": html.escape(named.verdict.line()),
+        "spent": f"<p>{html.escape(named.spent()).replace('e', 'E', 1)}.</p>" if named.existing else "",
         "command": html.escape(command),
         "style": (PARTS / "page.css").read_text(encoding="utf-8"),
         "script": (PARTS / "page.js").read_text(encoding="utf-8"),
@@ -106,13 +114,18 @@ def page_text(named: Named, places: "np.ndarray", note: str, title: str, command
     return first + "".join(texts[name] + after for name, after in pieces)
 
 
+def parser() -> Parser:
+    """The command line."""
+    words = Parser(description=__doc__.split(": ")[1], epilog=EPILOG)
+    add_accepted(words)
+    words.add_argument("--title", default="", help="the title of the page")
+    words.add_argument("--out", type=Path, required=True, help="the page: a name that ends in .html")
+    return words
+
+
 def main(words: list[str]) -> int:
     """Writes the page of a network."""
-    parser = Parser(prog="page", description=__doc__.split(": ")[1], epilog=EPILOG)
-    add_accepted(parser)
-    parser.add_argument("--title", default="", help="the title of the page")
-    parser.add_argument("--out", type=Path, required=True, help="the page: a name that ends in .html")
-    args = parser.parse_args(words)
+    args = parser().parse_args(words)
     if args.out.suffix != ".html":
         raise Fault(f"--out wants a name that ends in .html, found '{args.out}'")
     pythons.want("numpy")

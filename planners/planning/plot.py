@@ -68,17 +68,21 @@ def notes(left_out: list[str]) -> list[str]:
     return [f"{count} scenario{'s' * (count > 1)} {what} left out" for count, what in counts if count]
 
 
+def parser() -> Parser:
+    """The command line."""
+    words = Parser(description=__doc__.split(": ")[1])
+    add = words.add_argument
+    add("results", type=Path, help="the results.csv of a sweep")
+    add("--against", choices=list(NUMBERS), required=True, help="the column along the bottom")
+    add("--by", default="", metavar="COLUMNS", help="a line for each value of these columns, with commas between")
+    add("--title", default="", help="a line above the picture")
+    add("--out", required=True, help="the picture: a name that ends in .svg, .png or .pdf")
+    return words
+
+
 def main(words: list[str]) -> int:
     """Draws a sweep."""
-    parser = Parser(prog="plot-sweep", description=__doc__.split(": ")[1])
-    parser.add_argument("results", type=Path, help="the results.csv of a sweep")
-    parser.add_argument("--against", choices=list(NUMBERS), required=True, help="the column along the bottom")
-    parser.add_argument(
-        "--by", default="", metavar="COLUMNS", help="a line for each value of these columns, with commas between"
-    )
-    parser.add_argument("--title", default="")
-    parser.add_argument("--out", required=True, help="the picture: a name that ends in .svg, .png or .pdf")
-    args = parser.parse_args(words)
+    args = parser().parse_args(words)
     path = picture_path(args.out)
     pythons.want("numpy", "matplotlib")
     from .charts import chart

@@ -26,6 +26,8 @@ NO_ROUTE = re.compile(r"hub: no network for ([0-9]+) ([0-9]+)")
 """What it says then: the first two nodes that no route joins which is short enough."""
 NOT_TAKEN = 2
 """The status with which `hub` says that an older certificate does not serve, by a line on standard output."""
+TOO_LONG = "no TooLong"
+"""What `hub check` says of a text of more bytes than it takes."""
 TAKES_PLACE = "takes its place, which serves up to some 25 nodes"
 """What is told of a command where `optimize` has not an option."""
 MOST_STATUS = 15
@@ -34,7 +36,7 @@ MOST_STATUS = 15
 
 def program() -> str:
     """The program that HUB in the environment names, or the one of this repository, or the one of the path. A fault where
-    that of this repository is not built yet: no script begins with half an hour in which it shows nothing."""
+    that of this repository is not built yet: no script begins with an hour or more in which it shows nothing."""
     own = Path(__file__).resolve().parents[2] / "hub"
     named = os.environ.get("HUB") or (str(own) if own.is_file() else "hub")
     found = shutil.which(named)
@@ -191,6 +193,8 @@ def judge(options: Options, certificate: Path) -> tuple[Verdict | None, str]:
 def check(options: Options, certificate: Path) -> Verdict:
     """The verdict on a certificate; a fault where `hub check` did not accept it."""
     verdict, said = judge(options, certificate)
+    if said == TOO_LONG:
+        raise Fault(f"{certificate}: this certificate is too long for hub check, so that nothing of it is proved")
     if verdict is None:
         raise Fault(f"{certificate}: hub check did not accept this certificate: {said}")
     return verdict

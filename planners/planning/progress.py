@@ -24,6 +24,11 @@ class Steps:
         self.start = time.monotonic()
         self.look()
 
+    def change(self, text: str) -> None:
+        """Other words for the same step."""
+        self.text = text
+        self.look()
+
     def look(self) -> None:
         """Shows the line where it has changed."""
         seconds = int(time.monotonic() - self.start)

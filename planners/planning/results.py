@@ -15,9 +15,10 @@ from .certificate import read_hubs
 from .csv_tables import table_text
 from .files import put_all
 from .measure import run
-from .program import NO_NETWORK, NOT_TAKEN, Verdict, command, no_network, verdict_of
+from .program import NO_NETWORK, NOT_TAKEN, TOO_LONG, Verdict, command, no_network, verdict_of
 from .quantities import COST_PLACES, decimal
 from .scenarios import Scenario
+from .too_long import best_found
 
 
 @dataclass(frozen=True)
@@ -157,13 +158,13 @@ class Sweep:
             return command(
                 "resolve", scenario.options, self.file(older, "cert"), extra=scenario.search_words(("format",))
             )
-        begin = [f"--from={self.file(older, 'cert')}"] if older else []
+        first = self.file(older, "cert") if older else scenario.begin
+        begin = [f"--from={first}"] if first else []
         return command(scenario.command, scenario.options, extra=[*scenario.search_words(), *begin])
 
     def solve(self, scenario: Scenario, folder: Path, stop: Event) -> Result:
         """Runs the search, and `hub check` on what it wrote into this folder."""
-        key = scenario.key()
-        certificate, told = folder / "cert", folder / "verdict"
+        key, certificate = scenario.key(), folder / "cert"
         older, known = (self.older(scenario) if scenario.again_by else None) or (None, None)
         solved = run(self.words(scenario, older), certificate, self.limit, stop)
         seconds = f"{solved.seconds:.3f}"
@@ -184,20 +185,35 @@ class Sweep:
             return Result(key, f"the certificate of row {older.number} does not serve: {line}", **used)
         if solved.status not in (0, 1):
             return Result(key, f"failed with status {solved.status}: {solved.error}", **used)
+        told = folder / "verdict"
         checked = run(command("check", scenario.options, certificate), told, self.limit, stop)
         used["check_seconds"] = f"{checked.seconds:.3f}"
         if checked.status is None:
             return Result(key, "time limit", **used)
-        line = told.read_text(errors="replace").strip() or checked.error
-        verdict = verdict_of(checked.status, line)
-        if verdict is None:
-            return Result(key, "not accepted", verdict=line, **used)
-        return accepted(key, verdict, certificate, used)
+        verb = scenario.again_by if older else scenario.command
+        said = told.read_text(errors="replace").strip() or checked.error
+        return self.judged(scenario, verb, certificate, (checked.status, said), used)
 
-    def write_results(self) -> list[Result]:
-        """Writes the table of results once all scenarios are done, and removes what killed processes have left."""
+    def judged(
+        self, scenario: Scenario, verb: str, certificate: Path, checked: tuple[int, str], used: dict[str, Any]
+    ) -> Result:
+        """The result of what this command of `hub` wrote, by the status and the line of `hub check`."""
+        key, said, verdict = scenario.key(), checked[1], verdict_of(*checked)
+        if verdict is not None:
+            return accepted(key, verdict, certificate, used)
+        outcome = "not accepted"
+        if said == TOO_LONG:
+            outcome = best_found(scenario.options, certificate, self.names, verb, scenario.search)
+        return Result(key, outcome, verdict=said, **used)
+
+    def clean(self) -> None:
+        """Removes what killed processes have left."""
         for left in (self.folder / "rows").glob(f"*{AT_WORK}*"):
             shutil.rmtree(left, ignore_errors=True)
+
+    def write_results(self) -> list[Result]:
+        """Writes the table of results once all scenarios are done."""
+        self.clean()
         results = [result for scenario in self.scenarios if (result := self.result(scenario))]
         columns = list(self.scenarios[0].cells)
         shown = SHOWN + (OF_AGAIN if any(scenario.again_by for scenario in self.scenarios) else [])

@@ -38,6 +38,9 @@ class Scenario:
     again_by: str = ""
     """The command of `hub` that solves it from the certificate of a row before: `optimize` or `resolve`; empty where it
     is always solved anew."""
+    begin: Path | None = None
+    """A certificate with which its search begins. It is no part of what is asked, for the answer rests on nothing in
+    it."""
 
     def goes_on_from(self, other: "Scenario") -> bool:
         """Whether that command takes a certificate of another row. `optimize` believes nothing of it, and wants the

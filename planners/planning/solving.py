@@ -18,10 +18,11 @@ from .faults import Fault
 from .files import put_all
 from .measure import Ended, run
 from .options import LISTED, Options, test_values
-from .program import NO_NETWORK, NOT_TAKEN, USAGE, command, judge, no_network, serving
+from .program import NO_NETWORK, NOT_TAKEN, TOO_LONG, USAGE, command, judge, no_network, serving
 from .quantities import LISTED_HUBS
 from .sources import Source
 from .tables import Named, read_named
+from .too_long import best_found
 
 INSTANCE, COSTS, NAMES = "instance.txt", "instance.costs.txt", "instance.names.csv"
 CERTIFICATE = "certificate.txt"
@@ -77,12 +78,21 @@ class Question:
 
 def question_of(source: Source, layout: str, values: dict[str, str], no_self: bool, **search: str) -> Question:
     """The question of a source; `search` has the command as `verb`, and its options."""
-    texts = {path.name: text for path, text in converted(source, layout, False, "instance").items()}
     verb = search.pop("verb", "optimize")
     test_values(values | search, layout)
+    source, values = with_own_costs(source, values)
+    texts = {path.name: text for path, text in converted(source, layout, False, "instance").items()}
     if values.get("hubs") == LISTED and not LISTED_HUBS.read(source.listed):
         raise Fault(f"--hubs {LISTED} wants an ap file that lists a number of hubs; say the number itself")
     return Question(texts, layout, values, no_self, verb, search)
+
+
+def with_own_costs(source: Source, values: dict[str, str]) -> tuple[Source, dict[str, str]]:
+    """Source and options in which each node has its own fixed cost, where some hubs exist and cost nothing."""
+    if not any(source.existing or []) or "fixed" not in values:
+        return source, values
+    rest = {name: value for name, value in values.items() if name != "fixed"}
+    return replace(source, fixed=[values["fixed"]] * source.size()), rest
 
 
 def served(question: Question) -> tuple[Question, str]:
@@ -119,6 +129,9 @@ def answer(question: Question, folder: Path, look: Callable[[], None] | None = N
         if ended.status not in (0, 1):
             raise failure(question, ended, work / CERTIFICATE)
         verdict, said = judge(question.options(work), work / CERTIFICATE)
+        if verdict is None and said == TOO_LONG:
+            options, certificate = question.options(work), work / CERTIFICATE
+            raise Fault(best_found(options, certificate, question.names(), question.verb, question.search))
         if verdict is None:
             raise Fault(f"hub check did not accept what hub {question.verb} wrote: {said}")
         for name in [ASKED, COSTS, *stale]:

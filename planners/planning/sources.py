@@ -23,6 +23,8 @@ class Source:
     places: list[tuple[str, str]] | None = None
     """Longitude and latitude in degrees."""
     fixed: list[str] | None = None
+    existing: list[bool] | None = None
+    """Which nodes have a hub already, so that its fixed cost is spent."""
     factors: tuple[str, str, str] | None = None
     """Of collection, trunk and delivery."""
     listed: str = "0"
@@ -49,7 +51,14 @@ class Source:
             points=self.points and some(self.points),
             places=self.places and some(self.places),
             fixed=self.fixed and some(self.fixed),
+            existing=self.existing and some(self.existing),
         )
+
+    def spent(self) -> "Source":
+        """The source in which hubs that exist cost nothing."""
+        if not self.fixed or not self.existing:
+            return self
+        return replace(self, fixed=["0" if exists else cost for cost, exists in zip(self.fixed, self.existing)])
 
 
 def numbered(size: int) -> list[str]:

@@ -10,12 +10,13 @@ import signal
 import subprocess
 import sys
 import time
+from collections.abc import Callable
 from concurrent.futures import ThreadPoolExecutor
 from dataclasses import replace
 from pathlib import Path
 from threading import Event
 
-from .faults import Fault, Parser
+from .faults import Fault, Parser, called
 from .csv_tables import read_nodes
 from .options import OF_SEARCH, add_options, add_valued, options_of, test_values, values_of
 from .program import TAKES_PLACE, program, require, serving, serving_again
@@ -61,7 +62,7 @@ class Bar:
 
 def parser() -> Parser:
     """The command line."""
-    words = Parser(prog="sweep", description=__doc__.split(": ")[1], epilog=EPILOG)
+    words = Parser(description=__doc__.split(": ")[1], epilog=EPILOG)
     add_options(words)
     words.add_argument(
         "table", type=Path, help="a CSV table: a row for each scenario, a column for each option that it changes"
@@ -124,7 +125,8 @@ class Parallel:
 
     def __init__(self, sweep: Sweep, pending: list[Scenario], args: argparse.Namespace, words: list[str]) -> None:
         """Begins."""
-        script = str(Path(__file__).resolve().parents[1] / "sweep")
+        script = str(Path(sys.argv[0]).resolve())
+        self.front = f"{called()}: "
         python, machines = [sys.executable], []
         if args.sshlogin:
             python = []
@@ -154,25 +156,25 @@ class Parallel:
     def fault(self) -> str:
         """What went wrong."""
         lines = self.log.read_text(errors="replace").strip().split("\n")
-        told = [line.removeprefix("sweep: ") for line in lines if line.startswith("sweep: ")]
+        told = [line.removeprefix(self.front) for line in lines if line.startswith(self.front)]
         own = [line for line in told if not line.endswith(TAKES_PLACE)]
         return (own or lines)[-1]
 
 
-def do_all(sweep: Sweep, args: argparse.Namespace, words: list[str]) -> None:
-    """Does all scenarios that are not done, and shows how far it is."""
-    left = [scenario for scenario in sweep.scenarios if not sweep.result(scenario)]
-    bar = Bar(len(sweep.scenarios))
-    bar.show(bar.total - len(left))
+def do_all(
+    sweep: Sweep, begin: Callable[[list[Scenario]], Threads | Parallel], show: Callable[[int], None]
+) -> None:
+    """Does all scenarios that are not done, by the engine that `begin` starts; `show` is told how many are done."""
+    left, total = [scenario for scenario in sweep.scenarios if not sweep.result(scenario)], len(sweep.scenarios)
+    show(total - len(left))
     if not left:
         return
-    with_parallel = args.sshlogin or (not args.plain and not args.again and shutil.which("parallel"))
-    engine = Parallel(sweep, left, args, words) if with_parallel else Threads(sweep, left, args.jobs)
+    engine = begin(left)
     try:
         while left:
             over = engine.is_over()
             left = [scenario for scenario in left if not sweep.result(scenario)]
-            bar.show(bar.total - len(left))
+            show(total - len(left))
             if over:
                 break
             time.sleep(PAUSE)
@@ -180,7 +182,7 @@ def do_all(sweep: Sweep, args: argparse.Namespace, words: list[str]) -> None:
         engine.stop()
     if left:
         said = engine.fault()
-        raise Fault(f"{len(left)} of {bar.total} scenarios were not done" + (said and f": {said}"))
+        raise Fault(f"{len(left)} of {total} scenarios were not done" + (said and f": {said}"))
 
 
 def tell(sweep: Sweep, results: list[Result]) -> int:
@@ -188,7 +190,7 @@ def tell(sweep: Sweep, results: list[Result]) -> int:
     missing = [(scenario, result) for scenario, result in zip(sweep.scenarios, results) if result.outcome != "accepted"]
     for scenario, result in missing:
         reason = f"hub check did not accept: {result.verdict}" if result.outcome == "not accepted" else result.outcome
-        print(f"sweep: row {scenario.number}: {reason}", file=sys.stderr)
+        print(f"{called()}: row {scenario.number}: {reason}", file=sys.stderr)
     return 1 if missing else 0
 
 
@@ -234,7 +236,7 @@ def going_on(scenarios: list[Scenario], jobs: int) -> list[Scenario]:
 def tell_notes(notes: dict[str, list[int]]) -> None:
     """Says which rows are solved by another command than was asked for."""
     for note, numbers in notes.items():
-        print(f"sweep: row{'s' * (len(numbers) > 1)} {listed(numbers)}: {note}", file=sys.stderr, flush=True)
+        print(f"{called()}: row{'s' * (len(numbers) > 1)} {listed(numbers)}: {note}", file=sys.stderr, flush=True)
 
 
 def listed(numbers: list[int]) -> str:
@@ -256,7 +258,7 @@ def tell_gain(results: list[Result]) -> None:
         anew = sum(float(result.anew_seconds) for result in again)
         rows = f"{len(again)} row{'s were' if len(again) > 1 else ' was'} solved again in {took:.1f} s"
         text = f"{rows}; as many like the last one before each that was solved anew take {anew:.1f} s"
-        print(f"sweep: {text}", file=sys.stderr)
+        print(f"{called()}: {text}", file=sys.stderr)
 
 
 def stop_as_by_hand(*_: object) -> None:
@@ -292,9 +294,14 @@ def main(words: list[str]) -> int:
         sweep.do(scenarios[args.row - 1], Event(), args.keep)
         return 0
     if resolves and not args.solve:
-        print(f"sweep: {NO_FROM}", file=sys.stderr, flush=True)
+        print(f"{called()}: {NO_FROM}", file=sys.stderr, flush=True)
     tell_notes(notes)
-    do_all(sweep, args, words)
+    with_parallel = args.sshlogin or (not args.plain and not args.again and shutil.which("parallel"))
+
+    def begin(left: list[Scenario]) -> Threads | Parallel:
+        return Parallel(sweep, left, args, words) if with_parallel else Threads(sweep, left, args.jobs)
+
+    do_all(sweep, begin, Bar(len(scenarios)).show)
     results = sweep.write_results()
     tell_gain(results)
     return tell(sweep, results)

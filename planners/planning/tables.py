@@ -3,6 +3,7 @@
 from __future__ import annotations
 
 import json
+from collections.abc import Iterable
 from dataclasses import dataclass
 from pathlib import Path
 
@@ -25,6 +26,20 @@ class Named:
     network: Network
     verdict: Verdict
     names: list[str]
+    existing: frozenset[int] = frozenset()
+    """The nodes that have a hub already, whose cost counts as 0."""
+
+    def names_of(self, nodes: Iterable[int]) -> str:
+        """The names of nodes, with commas between."""
+        return ", ".join(self.names[node] for node in nodes)
+
+    def spent(self) -> str:
+        """What is said of the hubs that exist; empty where none does."""
+        if not self.existing:
+            return ""
+        idle = sorted(self.existing.difference(self.network.plan.hubs))
+        more = f"; not used: {self.names_of(idle)}" if idle else ""
+        return f"existing hubs, whose costs are spent and count as 0: {self.names_of(sorted(self.existing))}{more}"
 
 
 def read_named(options: Options, certificate: Path, names: Path | None) -> Named:
@@ -34,10 +49,13 @@ def read_named(options: Options, certificate: Path, names: Path | None) -> Named
     size = network.instance.size()
     if verdict.cost != network.plan.cost:
         raise Fault(f"{certificate}: the file was changed while it was read")
-    found = read_nodes(names).names if names else numbered(size)
-    if len(found) != size:
-        raise Fault(f"{names}: wanted {size} nodes, found {len(found)}")
-    return Named(network, verdict, found)
+    if names is None:
+        return Named(network, verdict, numbered(size))
+    found = read_nodes(names)
+    if len(found.names) != size:
+        raise Fault(f"{names}: wanted {size} nodes, found {len(found.names)}")
+    existing = frozenset(node for node, exists in enumerate(found.existing or []) if exists)
+    return Named(network, verdict, found.names, existing)
 
 
 Table = list[list[str]]
@@ -63,7 +81,7 @@ def summary(named: Named) -> Table:
 
 
 def hubs(named: Named) -> Table:
-    """Each hub with the flow that it takes in first and gives out last."""
+    """Each hub with the flow that it takes in first and gives out last, and whether it existed, where some do."""
     network = named.network
     rows = [
         [
@@ -72,10 +90,12 @@ def hubs(named: Named) -> Table:
             cost_text(network.instance.fixed[hub] * FIXED_UNITS),
             flow_text(network.collected[hub]),
             flow_text(network.delivered[hub]),
+            *(["yes" if hub in named.existing else ""] if named.existing else []),
         ]
         for hub in network.plan.hubs
     ]
-    return [["node", "name", "fixed_cost", "collected_flow", "delivered_flow"], *rows]
+    more = ["existing"] if named.existing else []
+    return [["node", "name", "fixed_cost", "collected_flow", "delivered_flow", *more], *rows]
 
 
 def routes(named: Named) -> Table:
@@ -135,13 +155,18 @@ def add_accepted(parser: Parser) -> None:
     parser.add_argument("--names", type=Path, metavar="FILE", help=columns)
 
 
+def parser() -> Parser:
+    """The command line."""
+    words = Parser(description=__doc__.split(": ")[1].strip(), epilog=EPILOG)
+    add_accepted(words)
+    words.add_argument("--format", choices=["csv", "json"], default="csv", help="default: csv")
+    words.add_argument("--out", type=Path, required=True, help="the folder for the CSV files, or the JSON file")
+    return words
+
+
 def main(words: list[str]) -> int:
     """Writes the tables of a network."""
-    parser = Parser(prog="network", description=__doc__.split(": ")[1].strip(), epilog=EPILOG)
-    add_accepted(parser)
-    parser.add_argument("--format", choices=["csv", "json"], default="csv", help="default: csv")
-    parser.add_argument("--out", type=Path, required=True, help="the folder for the CSV files, or the JSON file")
-    args = parser.parse_args(words)
+    args = parser().parse_args(words)
     tables = all_tables(read_named(options_of(args), args.certificate, args.names))
     if args.format == "json":
         put_all({args.out: as_json(tables)})

@@ -99,6 +99,18 @@ class InFolder(unittest.TestCase):
             "print(*lines, sep=\"\\n\", end=\"\")\nsys.exit(1)\n' \"$gap\"\n",
         )
 
+    def too_long(self) -> str:
+        """A program that is hub, whose searches write a certificate of more bytes than hub check takes: a file with a
+        hole at its end."""
+        size = '[ "$(wc -c <"$file")" -le 1073741824 ] || { echo "no TooLong"; exit 2; }'
+        return self.standin(
+            "long-hub",
+            f'case "$1" in\ncheck) for file do [ ! -f "$file" ] || {{ {size}; }}; done;;\n'
+            f'optimize|solve) {program()} "$@"; status=$?\n'
+            f'[ $status -gt 1 ] || truncate -s 1073741825 /proc/self/fd/1\nexit $status;;\n'
+            f'esac\nexec {program()} "$@"\n',
+        )
+
     def script(self, name: str, *words: str, hub: str = "") -> subprocess.CompletedProcess[str]:
         """Runs a script in the folder."""
         return subprocess.run(

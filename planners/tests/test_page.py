@@ -19,6 +19,7 @@ if lacks("numpy"):
     raise SkipTest(lacks("numpy"))
 
 from .networks import made
+from planning.alternatives import Alternatives, Line
 from planning.page import page_text
 from planning.program import Verdict
 
@@ -223,6 +224,28 @@ class InABrowser(Districts):
         while not self.find("#pointer")[0].text and time.monotonic() < until:
             time.sleep(0.05)
         self.assertTrue(self.find("#pointer")[0].text.startswith(self.names[8] + "\nflow out "))
+
+    def test_what_was_asked(self) -> None:
+        named, places = made(10, 3)
+        cost = named.verdict.cost
+        dearer, least = cost + cost // 8, cost + cost // 16
+        lines = [
+            Line("without", 0, "accepted", cost=dearer, bound=dearer, hubs=frozenset({1, 2, 5})),
+            Line("without", 1, "no network for it"),
+            Line("with", 4, "accepted", cost=dearer, bound=least, hubs=frozenset({0, 1, 4})),
+        ]
+        page = self.folder / "asked.html"
+        text = page_text(replace(named, existing=frozenset({2, 7})), places, "", "", "", Alternatives(named, lines))
+        page.write_text(text, encoding="utf-8")
+        self.browser.get(page.as_uri())
+        self.assertEqual(self.browser.get_log("browser"), [])
+        hubs = self.rows("#hub-table")
+        self.assertRegex(hubs[0][4], "^rise [0-9.]+$")
+        self.assertEqual([row[5] for row in hubs], ["opens Place 5", "no network for it", ""])
+        further = self.rows("#further-table")
+        self.assertEqual((further[0][0], further[0][2].partition(" at least")[0]), ("Place 4", "not proved:"))
+        self.assertTrue(further[0][2].endswith("; closes Place 2"))
+        self.assertEqual(len(self.find("#picture .exists")), 2)
 
     def test_names_at_three_sizes(self) -> None:
         for size, hubs, least in ((10, 3, 10), (25, 4, 25), (200, 12, 60)):

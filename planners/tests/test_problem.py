@@ -130,6 +130,16 @@ class OptionsOfSearch(InFolder):
         self.assertEqual(repr(result), told)
         self.assertEqual(planning.solve(FLOWS, DISTANCES, fixed=1).gap, 0)
 
+    def test_a_certificate_too_long_to_be_checked(self) -> None:
+        self.by(self.too_long())
+        with self.assertRaises(planning.Fault) as caught:
+            planning.solve(FLOWS, DISTANCES, fixed=[1, 1.5, 1], trunk=0.2, names=["Ayr", "Bute", "Crail"])
+        line = (
+            "the best network found costs 34, with the hubs Ayr, Crail; it is not proved, for its certificate is too"
+            " long for hub check: try --gap, --format 2 or fewer candidates"
+        )
+        self.assertEqual(str(caught.exception), line)
+
     def test_a_gap_as_hub_leaves_it(self) -> None:
         least = planning.solve(FLOWS, DISTANCES, fixed=1).cost
         result = planning.solve(FLOWS, DISTANCES, fixed=1, gap=20)

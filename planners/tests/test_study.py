@@ -121,6 +121,7 @@ class Studies(InFolder):
             ([*words, "--trunk", "4x"], "--trunk: wanted a factor, a number from 0 to 1000, found '4x'"),
             ([*words, "--candidates", "No"], "--candidates wants names or numbers of nodes, each once, found 'No'"),
             ([*words, "--workers", "0"], "--workers: wanted a number of workers, a number from 1 to 64, found '0'"),
+            ([*words, "--places", "3"], "--places and --jobs are for --what-if"),
             ([*words[:-1], "."], ".: the tables to read lie in this folder; choose another --out"),
             (
                 [*words, "--hubs=2", "--max-length=9"],
@@ -165,6 +166,55 @@ class Studies(InFolder):
         self.assertEqual(before, {name: self.read(f"out/{name}") for name in self.names("out")})
         ended = self.script("study", *words, "--hubs=2", hub=self.older())
         self.assert_fault(ended, f"study: {self.folder}/older-hub: this hub has no option --hubs for optimize")
+
+    def test_a_certificate_too_long_to_be_checked(self) -> None:
+        words = [*WORDS, "--no-map", "--out", "out"]
+        found = "the best network found costs 485, with the hubs West, East; it is not proved"
+        for more, helps in (
+            ([], "--gap, --format 2 or fewer candidates"),
+            (["--format=2", "--gap=1"], "a greater --gap or fewer candidates"),
+            (["--solve"], "--format 2 or fewer candidates"),
+        ):
+            ended = self.script("study", *words, *more, hub=self.too_long())
+            line = f"study: {found}, for its certificate is too long for hub check: try {helps}"
+            self.assert_fault(ended, line)
+        self.assertEqual(list((self.folder / "out").iterdir()), [])
+        self.solve("long.cert", "ap", str(INSTANCES / "districts.txt"))
+        os.truncate(self.folder / "long.cert", 2**30 + 1)
+        words = ["ap", str(INSTANCES / "districts.txt"), "long.cert", "--out", "tables"]
+        line = "long.cert: this certificate is too long for hub check, so that nothing of it is proved"
+        self.assert_fault(self.script("network", *words, hub=self.too_long()), f"network: {line}")
+
+    def test_hubs_that_exist(self) -> None:
+        words = ["flows.csv", "--trunk=0.5", "--no-map", "--out", "out"]
+        said = "existing hubs, whose costs are spent and count as 0: West, East"
+        marked = NODES.replace("fixed\n", "fixed,existing\n").replace("70\n", "70,yes\n").replace("90\n", "90,1\n")
+        self.write("marked.csv", marked.replace("80\n", "80,\n"))
+        for more, costs in (
+            (["marked.csv", *words], "0 80 0"),
+            (["nodes.csv", *words, "--existing", "East,1", "--fixed=50"], "0 50 0"),
+        ):
+            ended = self.script("study", *more)
+            self.assertEqual((ended.returncode, ended.stderr), (0, ""))
+            self.assertEqual(self.read("out/instance.costs.txt"), costs + "\n")
+            self.assertIn(f"\n{said}\n", ended.stdout)
+            self.assertEqual([row["name"] for row in self.table("out/hubs.csv") if row["existing"]], ["West", "East"])
+            page = self.read("out/page.html")
+            self.assertIn('"existing":[0,2]', page)
+            self.assertIn(f"<p>E{said[1:]}.</p>", page)
+        # The option takes the place of the column.
+        ended = self.script("study", "marked.csv", *words, "--existing", "Middle")
+        self.assertIn("count as 0: Middle", ended.stdout)
+        self.assertEqual(self.read("out/instance.costs.txt"), "70 0 90\n")
+        self.assertNotIn("existing", self.script("study", "nodes.csv", *words).stdout)
+        for more, line in (
+            (["--existing", "No"], "--existing wants names or numbers of nodes, each once, found 'No'"),
+            (["--existing=West", "--candidates=East"], "West has a hub already, and is not among --candidates"),
+        ):
+            self.assert_fault(self.script("study", "nodes.csv", *words, *more), f"study: {line}")
+        self.write("wrong.csv", marked.replace("80\n", "80,x\n"))
+        line = "wrong.csv:3: wanted in the column 'existing' yes or no, found 'x'"
+        self.assert_fault(self.script("study", "wrong.csv", *words), f"study: {line}")
 
     def older(self) -> str:
         """A program that knows none of the options that came later."""

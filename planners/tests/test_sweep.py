@@ -114,6 +114,16 @@ class Sweeps(InFolder):
         self.assertEqual(costs[0], costs[1])
         self.assertEqual(len(costs[0]), 2)
 
+    def test_a_certificate_too_long_to_be_checked(self) -> None:
+        self.write("table.csv", "trunk,fixed\n0.5,40000000\n")
+        ended = self.script("sweep", *self.words("out"), hub=self.too_long())
+        self.assertEqual((ended.returncode, ended.stdout), (1, ""))
+        line = ended.stderr.splitlines()[-1]
+        self.assertRegex(line, "^sweep: row 1: the best network found costs [0-9,.…]+, with the hubs [0-9, ]+; it is not")
+        self.assertTrue(line.endswith(" is too long for hub check: try --gap, --format 2 or fewer candidates"))
+        row = self.table("out/results.csv")[0]
+        self.assertEqual((row["outcome"], row["cost"]), (line.removeprefix("sweep: row 1: "), ""))
+
     def test_rows_one_by_one(self) -> None:
         self.write("table.csv", "trunk,fixed\n0.5,40000000\n0.25,40000000\n")
         for row in ("1", "2"):

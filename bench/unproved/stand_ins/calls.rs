@@ -3,10 +3,12 @@
 //!
 //! COMMAND is `solve` (with --rule 2 by rounds, with --cuts core by core cuts), `optimize`, or `resolve` with --from OLD; --workers W and --format 1|2|3
 //! are as they are in the product. The text goes to standard output, and seconds to standard error.
+//!
+//! `scan FILE` scans a certificate, and tells how many items it gave, its fault, and the seconds.
 
 use crate::branch_tree::{search, search_from};
 use crate::cert_checker::{Older, read_older};
-use crate::cert_scan::Version;
+use crate::cert_scan::{Scan, Version};
 use crate::closing_search::{Task, optimize_within};
 use crate::core_cuts::core_cut;
 use crate::dual_lender::DualLender;
@@ -128,8 +130,27 @@ impl Words {
     }
 }
 
+fn scan(name: &str) {
+    let bytes = std::fs::read(name).expect("the certificate");
+    let start = Instant::now();
+    let (mut scan, mut items) = (Scan::new(), 0u64);
+    for piece in bytes.chunks(65_536) {
+        let mut rest = piece;
+        while !rest.is_empty() {
+            let (count, item) = scan.run(rest);
+            items += item.is_some() as u64;
+            rest = &rest[count..];
+        }
+    }
+    let seconds = start.elapsed().as_secs_f64();
+    println!("{items} items, {:?}, {seconds:.4} s", scan.finish());
+}
+
 pub fn main() {
     let words = Words(std::env::args().skip(1).collect());
+    if words.0[0] == "scan" {
+        return scan(&words.0[1]);
+    }
     let start = Instant::now();
     let instance = words.instance();
     let read = Instant::now();

@@ -1,9 +1,8 @@
 -- The start of a search that begins again: given cuts, and hubs that are tried.
 use Rattle.std.proofs.Common.{◌≡◌, ℕ, ◌<◌, List, [], ◌∷◌, ◌++◌, length, All, Contains, Bool, true, false, not, is_some, IsTrue, ◌↔◌, Vec, Global, refl, ap, sym, subst, ◌∙◌, true≢false, append-nil, arith}
 use Rattle.std.specs.List.{list_all}
-use Rattle.std.proofs.lemmas.Bool.{and_parts}
 use Rattle.std.proofs.lemmas.List.{length_push}
-use Rattle.std.proofs.lemmas.List.Elements.{All-nil, All-cons, All-head, All-tail, All-push}
+use Rattle.std.proofs.lemmas.List.Elements.{All-push}
 use Rattle.std.proofs.lemmas.List.FromFn.{length-map-range_with_len, get_or-map-range_with_len}
 use Rattle.hub_spec.specs.Limits.{most_cuts}
 use Rattle.hub_spec.specs.Problem.{Problem}
@@ -18,15 +17,14 @@ use Rattle.search_spec.specs.States.{State, number_in_pool}
 use Rattle.search_spec.specs.Steps.{separated}
 use Rattle.search_spec.specs.Choices.{has_node, others, begun_for}
 use Rattle.search_spec.specs.Again.{Start, has_wanted, is_tried, tried, with_given, begun_again}
-use Rattle.search_spec.proofs.RuleParts.{has_when, in_when}
-use Rattle.search_spec.proofs.Beginnings.{one_by_one}
+use Rattle.search_spec.proofs.Beginnings.{all_has, all_in, one_by_one}
 use Rattle.cut_pool.specs.Entries.{given_entry}
 use Rattle.search_steps.specs.Advising.{parts_of}
-use Rattle.separators.specs.Kinds.{CutKind, parts_for}
+use Rattle.search_progress.specs.Kinds.{CutKind, parts_for}
 use Rattle.search_steps.specs.Pools.{IsSumsOf, IsPoolOf, state_by}
 use Rattle.search_steps.proofs.GivenPools.{grown_same, grown_twice, added_is_given}
 use Rattle.search_core.specs.declared.tasks.Task.{Task}
-use Rattle.kept_cuts.specs.Findings.{lines_of}
+use Rattle.cut_pool.specs.Findings.{lines_of}
 use Rattle.search_progress.specs.declared.progress.Progress.{Progress}
 use Rattle.search_progress.specs.Progressing.{state_of, IsGoing, IsAt}
 use Rattle.search_progress.proofs.Orders.{parts_ascending}
@@ -102,18 +100,6 @@ given_next t before middle after cuts cut some one =
     }
 
 -- ---- hubs that are tried
-
-all_has : (ks hubs : List ℕ) → All (Contains ks) hubs → list_all (has_node ks) hubs ≡ true
-all_has ks [] are = refl
-all_has ks (h ∷ hs) are =
-    let first = has_when ks h (All-head (Contains ks) h hs are) in
-    rw first (all_has ks hs (All-tail (Contains ks) h hs are))
-
-all_in : (ks hubs : List ℕ) → list_all (has_node ks) hubs ≡ true → All (Contains ks) hubs
-all_in ks [] e = All-nil (Contains ks)
-all_in ks (h ∷ hs) e =
-    let parts = and_parts (has_node ks h) (list_all (has_node ks) hs) e in
-    All-cons (Contains ks) h hs (in_when ks h parts.0) (all_in ks hs parts.1)
 
 -- whether all are candidates, by what is told of it
 pub all_told : (ks hubs : List ℕ) (told : Bool) → IsTrue told ↔ All (Contains ks) hubs → list_all (has_node ks) hubs ≡ told

@@ -10,9 +10,9 @@ use Rattle.hub_spec.proofs.SumLemmas.{by_test}
 use Rattle.search_spec.specs.States.{denominator, State, Advice, Parts, Grown, Handling, whole_on, number_in_pool, is_stopped}
 use Rattle.search_spec.specs.Steps.{closes_at, full_by, full_on, may_split, two_more, stopped_leaf, Round, round, rounds, Side, stays_open, stays_closed, child_on, fixings, unless_ended, on_set, ended, halved, parted, beside, with_leaf, fixed, after_rounds, explored, handled, node, searched}
 use Rattle.search_spec.specs.Choices.{all_closed, barren_end, begun_for}
-use Rattle.kept_cuts.specs.Findings.{IsUnlimited}
+use Rattle.cut_pool.specs.Findings.{IsUnlimited}
 use Rattle.search_steps.specs.Advising.{parts_of}
-use Rattle.separators.specs.Kinds.{CutKind, parts_for}
+use Rattle.search_progress.specs.Kinds.{CutKind, parts_for}
 use Rattle.search_steps.proofs.OpenBranches.{never_blocked}
 use Rattle.search_steps.proofs.RuleChoices.{barren_is, some_open}
 use Rattle.branch_tree.specs.Findings.{found_by}

@@ -12,7 +12,7 @@ use Rattle.search_steps.specs.Pools.{entry_cut, pool_cuts}
 use Rattle.search_core.specs.declared.tasks.Task.{Task}
 use Rattle.search_progress.specs.declared.progress.Progress.{Progress}
 use Rattle.search_steps.specs.Advising.{parts_of}
-use Rattle.separators.specs.Kinds.{CutKind, parts_for}
+use Rattle.search_progress.specs.Kinds.{CutKind, parts_for}
 use Rattle.search_progress.specs.Progressing.{state_of, IsAt}
 use Rattle.search_progress.proofs.Orders.{parts_ascending, outside_is}
 

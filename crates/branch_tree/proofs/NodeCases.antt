@@ -13,8 +13,8 @@ use Rattle.search_steps.specs.Pools.{InEachStateAt}
 use Rattle.search_core.specs.declared.tasks.Task.{Task}
 use Rattle.search_progress.specs.declared.progress.Progress.{Progress}
 use Rattle.search_steps.specs.Advising.{parts_of}
-use Rattle.separators.specs.Kinds.{CutKind, parts_for}
-use Rattle.separators.proofs.KindCuts.{goes_on_for}
+use Rattle.search_progress.specs.Kinds.{CutKind, parts_for}
+use Rattle.search_progress.proofs.KindCuts.{goes_on_for}
 use Rattle.search_steps.proofs.RuleChoices.{parts_sound}
 use Rattle.branch_tree.specs.Lines.{handling}
 use Rattle.search_progress.specs.Progressing.{state_of}

@@ -7,7 +7,7 @@ use Rattle.search_spec.specs.Steps.{better, closes_at, separated, round, rounds}
 use Rattle.search_spec.specs.Choices.{rule_parts, order_by_point, by_falling, others}
 use Rattle.search_spec.proofs.StepCases.{round_over, round_new}
 use Rattle.search_steps.specs.Advising.{master_advising, parts_of}
-use Rattle.separators.specs.Kinds.{CutKind, parts_for}
+use Rattle.search_progress.specs.Kinds.{CutKind, parts_for}
 use Rattle.search_core.specs.declared.tasks.Task.{Task}
 use Rattle.search_progress.specs.declared.progress.Progress.{Progress}
 use Rattle.branch_tree.specs.declared.rounds.RoundEnd.{RoundEnd}

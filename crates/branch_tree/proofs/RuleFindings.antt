@@ -6,12 +6,14 @@ use Rattle.search_spec.specs.Steps.{searched}
 use Rattle.search_spec.specs.Laws.{IsStart}
 use Rattle.search_spec.specs.Choices.{rule_parts, begun_for}
 use Rattle.search_spec.specs.Again.{Start, IsStartOf, begun_again}
+use Rattle.search_spec.specs.Costs.{IsAtMostOf, first_hubs, IsAtMostBoth}
+use Rattle.search_spec.proofs.FallingCosts.{cost_falls, least_to, begun_most, again_most}
 use Rattle.search_spec.proofs.WholeSearches.{begun_by, search_proof, search_counted, search_stopped, enough_nodes}
 use Rattle.search_spec.proofs.Beginnings.{again_start, rule_of_sets}
-use Rattle.separators.specs.Kinds.{CutKind, minimal, parts_for}
-use Rattle.separators.proofs.KindCuts.{kind_is_sound}
-use Rattle.kept_cuts.specs.Findings.{AreRemade}
-use Rattle.kept_cuts.specs.declared.found.Found.{Found}
+use Rattle.search_progress.specs.Kinds.{CutKind, minimal, parts_for}
+use Rattle.search_progress.proofs.KindCuts.{kind_is_sound}
+use Rattle.cut_pool.specs.Findings.{AreRemade}
+use Rattle.cut_pool.specs.declared.found.Found.{Found}
 use Rattle.branch_tree.specs.Findings.{found_by, found_again}
 use Rattle.search_progress.specs.Findings.{IsFound}
 use Rattle.branch_tree.proofs.FirstLines.{first_from}
@@ -42,6 +44,28 @@ pub again_searched : (kind : CutKind) (p : Problem) (n : Option ℕ) (start : St
 again_searched kind p n start ok is =
     searched_from kind p n (begun_again p (parts_for kind p) start) ok.problem
     (again_start p (parts_for kind p) start ok.problem ok.lacks_none (kind_is_sound kind p ok.problem) is)
+
+-- what they cost at most
+pub rule_at_most : (kind : CutKind) (p : Problem) (n : Option ℕ) → IsSearchable p → IsAtMostOf p (first_hubs p) (found_by kind p n).state.cost
+rule_at_most kind p n ok =
+    let parts = parts_for kind p in
+    let sound = kind_is_sound kind p ok.problem in
+    least_to p (first_hubs p) (found_by kind p n).state.cost (begun_for p parts p.wanted).cost
+    (cost_falls p parts n (begun_for p parts p.wanted) ok.problem sound (begun_by p parts p.wanted ok.problem ok.lacks_none sound refl))
+    (begun_most p parts ok.lacks_none sound)
+
+pub again_at_most : (kind : CutKind) (p : Problem) (n : Option ℕ) (start : Start) → IsSearchable p → IsStartOf p start
+    → IsAtMostBoth p start (found_again kind p n start).state.cost
+again_at_most kind p n start ok is =
+    let parts = parts_for kind p in
+    let sound = kind_is_sound kind p ok.problem in
+    let begun = begun_again p parts start in
+    let falls = cost_falls p parts n begun ok.problem sound (again_start p parts start ok.problem ok.lacks_none sound is) in
+    let most = again_most p parts start ok.problem ok.lacks_none sound is in
+    record {
+      own = least_to p (first_hubs p) (found_again kind p n start).state.cost begun.cost falls most.own;
+      given = least_to p start.hubs (found_again kind p n start).state.cost begun.cost falls most.given;
+    }
 
 -- a cut of minimal duals is not marked
 minimal_no_mark : (p : Problem) → HasNoMark (parts_for minimal p)

@@ -8,7 +8,7 @@ use Rattle.search_steps.specs.Pools.{HasGrown}
 use Rattle.search_steps.proofs.GivenPools.{grown_twice}
 use Rattle.search_core.specs.declared.tasks.Task.{Task}
 use Rattle.search_progress.specs.declared.progress.Progress.{Progress}
-use Rattle.kept_cuts.specs.Findings.{lines_of}
+use Rattle.cut_pool.specs.Findings.{lines_of}
 use Rattle.search_progress.specs.Progressing.{state_of}
 use Rattle.branch_tree.specs.Lines.{HasLine, IsDone}
 use Rattle.branch_tree.proofs.AddedLines.{line_kept, line_state}

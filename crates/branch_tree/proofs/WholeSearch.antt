@@ -6,7 +6,7 @@ use Rattle.search_spec.specs.Steps.{searched}
 use Rattle.search_spec.specs.Choices.{begun_for, rule}
 use Rattle.search_spec.specs.Again.{Start, begun_again, rule_again}
 use Rattle.search_steps.specs.Advising.{master_advising}
-use Rattle.separators.specs.Kinds.{CutKind, minimal, parts_for}
+use Rattle.search_progress.specs.Kinds.{CutKind, minimal, parts_for}
 use Rattle.branch_tree.specs.Findings.{found_by, found_again}
 
 -- what the search finds from the state with which the rule begins, and from that with which it begins again

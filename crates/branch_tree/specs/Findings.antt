@@ -9,9 +9,9 @@ use Rattle.search_spec.specs.Choices.{rule, begun_for}
 use Rattle.search_spec.specs.Again.{Start, IsStartOf, rule_again, begun_again}
 use Rattle.search_spec.specs.Steps.{searched}
 use Rattle.search_steps.specs.Advising.{master_advising}
-use Rattle.separators.specs.Kinds.{CutKind, minimal, parts_for}
-use Rattle.kept_cuts.specs.Findings.{IsUnlimited, IsProved}
-use Rattle.kept_cuts.specs.declared.found.Found.{Found}
+use Rattle.search_progress.specs.Kinds.{CutKind, minimal, parts_for}
+use Rattle.cut_pool.specs.Findings.{IsUnlimited, IsProved}
+use Rattle.cut_pool.specs.declared.found.Found.{Found}
 use Rattle.search_progress.specs.Findings.{IsFound}
 
 -- what the rule finds with the master's advice and these cuts, where this is the most nodes

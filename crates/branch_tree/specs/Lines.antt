@@ -6,8 +6,8 @@ use Rattle.search_spec.specs.States.{Grown, Handling}
 use Rattle.search_spec.specs.Steps.{node}
 use Rattle.search_steps.specs.Pools.{HasGrown}
 use Rattle.search_core.specs.declared.tasks.Task.{Task}
-use Rattle.kept_cuts.specs.Findings.{lines_of}
-use Rattle.separators.specs.Kinds.{CutKind, parts_for}
+use Rattle.cut_pool.specs.Findings.{lines_of}
+use Rattle.search_progress.specs.Kinds.{CutKind, parts_for}
 use Rattle.search_progress.specs.declared.progress.Progress.{Progress}
 use Rattle.search_progress.specs.Progressing.{state_of, IsGoing}
 

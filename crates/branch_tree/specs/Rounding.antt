@@ -9,7 +9,7 @@ use Rattle.search_steps.specs.Weights.{AreNodeWeights, pairs_of}
 use Rattle.search_core.specs.declared.tasks.Task.{Task}
 use Rattle.search_progress.specs.declared.progress.Progress.{Progress}
 use Rattle.branch_tree.specs.declared.rounds.RoundEnd.{RoundEnd}
-use Rattle.kept_cuts.specs.Findings.{lines_of}
+use Rattle.cut_pool.specs.Findings.{lines_of}
 use Rattle.search_progress.specs.Progressing.{state_of, IsGoing}
 
 -- what the code's round leaves, with what the search has after it

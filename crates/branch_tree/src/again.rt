@@ -6,11 +6,12 @@ ghost use Rattle.hub_spec.specs.Plans.{IsHubSet, plan_cost, NoPlanBelow};
 ghost use Rattle.hub_spec.specs.Cuts.{IsCut};
 ghost use Rattle.hub_spec.specs.Ranges.{IsCutInRange};
 ghost use Rattle.search_spec.specs.Again.{IsStartOf, with_given, has_wanted, is_tried, tried, begun_again};
+ghost use Rattle.search_spec.specs.Costs.{IsAtMostBoth};
 ghost use Rattle.search_spec.specs.Findings.{certificate_of, AreWithin, IsSpent, IsEnough};
 ghost use Rattle.search_core.specs.Starts.{start_seen};
 ghost use Rattle.cut_pool.specs.Entries.{Lacks};
-ghost use Rattle.separators.specs.Kinds.{parts_for};
-ghost use Rattle.kept_cuts.specs.Findings.{lines_of, proof_of, IsProved};
+ghost use Rattle.search_progress.specs.Kinds.{parts_for};
+ghost use Rattle.cut_pool.specs.Findings.{lines_of, proof_of, IsProved};
 ghost use Rattle.search_progress.specs.Progressing.{state_of, IsGoing, IsAt};
 ghost use Rattle.branch_tree.specs.Findings.{found_again};
 ghost use Rattle.search_progress.specs.Findings.{IsFound};
@@ -19,20 +20,19 @@ use crate::searching::search_on;
 use assign_sub::lacking;
 use hub_model::{Instance, MOST_CUTS};
 use hub_plain::outside;
-use kept_cuts::Found;
+use cut_pool::Found;
 use plan_model::{HubSet, are_among};
 use search_core::{Start, Task};
-use search_progress::{Progress, begin, number_of, separate};
+use search_progress::{Progress, Separator, begin, number_of, separate};
 use search_steps::Rule;
-use separators::Separator;
-use stated_cuts::StatedCut;
+use cut_model::StatedCut;
 use std::alloc::{AllocError, Global};
 
 /// What the rule of the search, which serves the instance, finds that begins with these cuts beside its own, and tries
 /// these hubs first: a wanted plan with its cost, a bound that no wanted plan costs less than, and the cuts and the tree
 /// that show it. The given cuts have the numbers after those with which the rule begins, in their order, and keep them.
 /// The hubs are separated then, if they may be hubs of a wanted plan and have no cut yet; they are the first
-/// incumbent where they cost less than that of the rule.
+/// incumbent where they cost less than that of the rule. So the plan costs at most what either does.
 ///
 /// `nodes` is the most nodes of the tree, the root among them; with `None` they are not limited. All candidates together
 /// lack no commodity.
@@ -62,6 +62,7 @@ pub fn search_from<R: Rule, S: Separator>(
     ensures paid { IfOk result (λ found. found.cost ≡ plan_cost instance.now found.plan) }
     ensures below { IfOk result (λ found. NoPlanBelow instance.now found.bound) }
     ensures within { IfOk result (λ found. found.bound ≤ found.cost) }
+    ensures at_most { IfOk result (λ found. IsAtMostBoth instance.now (start_seen start) found.cost) }
     ensures most { IfOk result (λ found. length found.tree.items + 1 ≤ 2 ^ (length instance.now.candidates + 1)) }
     ensures allowed { IfOk result (λ found. AreWithin nodes (length found.tree.items)) }
     ensures spent { IfOk result (λ found. found.bound < found.cost → IsSpent nodes (length found.tree.items)) }
@@ -132,7 +133,10 @@ fn give_one(
     if progress.pool.len() >= MOST_CUTS as u64 {
         return Err(AllocError);
     }
-    progress.pool.add_given(alloc, task.instance.size(), cut)?;
+    let size = task.instance.size();
+    if progress.pool.add_given(alloc, size, cut).is_err() {
+        return Err(AllocError);
+    }
     Ok(())
 }
 

@@ -7,7 +7,7 @@ ghost use Rattle.search_spec.specs.States.{denominator};
 ghost use Rattle.search_spec.specs.Steps.{full_on, stopped_leaf, ended};
 ghost use Rattle.search_steps.specs.Weights.{AreNodeWeights, pairs_of};
 ghost use Rattle.search_steps.specs.Advising.{parts_of};
-ghost use Rattle.separators.specs.Kinds.{parts_for};
+ghost use Rattle.search_progress.specs.Kinds.{parts_for};
 ghost use Rattle.search_progress.specs.Progressing.{state_of, IsGoing};
 ghost use Rattle.branch_tree.specs.Lines.{IsDone};
 
@@ -16,9 +16,8 @@ use crate::walk::Walk;
 use hub_plain::outside;
 use plan_model::{Branch, HubSet};
 use search_core::whole_leaf;
-use search_progress::{number_of, stopped_leaf};
+use search_progress::{Separator, number_of, stopped_leaf};
 use search_steps::{Rule, leaf_line};
-use separators::Separator;
 use std::alloc::AllocError;
 
 impl<R: Rule> Walk<'_, R> {

@@ -6,7 +6,7 @@ ghost use Rattle.search_spec.specs.Laws.{GoesOn};
 ghost use Rattle.search_spec.specs.Steps.{round, rounds};
 ghost use Rattle.search_steps.specs.Weights.{AreNodeWeights, pairs_of};
 ghost use Rattle.search_steps.specs.Advising.{parts_of};
-ghost use Rattle.separators.specs.Kinds.{parts_for};
+ghost use Rattle.search_progress.specs.Kinds.{parts_for};
 ghost use Rattle.search_progress.specs.Progressing.{state_of, IsGoing};
 ghost use Rattle.branch_tree.specs.Rounding.{round_as, IsRound};
 
@@ -14,9 +14,8 @@ use crate::walk::Walk;
 use frac_master::Advice;
 use pareto_cuts::order_of;
 use plan_model::Branch;
-use search_progress::number_of;
+use search_progress::{Separator, number_of};
 use search_steps::{Rule, node_advice};
-use separators::Separator;
 use std::alloc::AllocError;
 
 /// What a round leaves: the weights on the first cuts, in 10^-6, the advice that it took, and whether another round may

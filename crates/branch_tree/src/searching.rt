@@ -5,29 +5,30 @@ ghost use Rattle.hub_spec.specs.Plans.{IsHubSet, plan_cost, NoPlanBelow};
 ghost use Rattle.hub_spec.specs.Trees.{preorder};
 ghost use Rattle.search_spec.specs.States.{Grown};
 ghost use Rattle.search_spec.specs.Steps.{searched};
+ghost use Rattle.search_spec.specs.Costs.{IsAtMostOf, first_hubs};
 ghost use Rattle.search_spec.specs.Findings.{certificate_of, AreWithin, IsSpent, IsEnough};
-ghost use Rattle.kept_cuts.specs.Findings.{lines_of, proof_of, AreRemade, IsProved};
+ghost use Rattle.cut_pool.specs.Findings.{lines_of, proof_of, AreRemade, IsProved};
 ghost use Rattle.search_progress.specs.Progressing.{state_of, IsGoing};
 ghost use Rattle.branch_tree.specs.Findings.{found_by};
 ghost use Rattle.search_progress.specs.Findings.{IsFound};
-ghost use Rattle.separators.specs.Kinds.{minimal, parts_for};
+ghost use Rattle.search_progress.specs.Kinds.{minimal, parts_for};
 
 use crate::walk::Walk;
 use hub_model::Instance;
-use kept_cuts::Found;
+use cut_pool::Found;
 use plan_model::Branch;
 use search_core::Task;
-use search_progress::{Progress, begin, finish};
+use search_progress::{Progress, Separator, begin, finish};
 use search_steps::Rule;
-use separators::Separator;
 use std::alloc::{AllocError, Global};
 
 /// What the rule of the search, which serves the instance, finds: a wanted plan with its cost, a bound that no wanted
 /// plan costs less than, and the cuts and the tree that show it. `nodes` is the most nodes of the tree, the root among
 /// them; with `None` they are not limited. All candidates together lack no commodity.
 ///
-/// Only where two nodes more are not allowed the search stops, and then the bound is below the cost. Else both are equal
-/// and the plan is optimal. The finding is the same for every separator of the same kind of cuts.
+/// The plan costs at most what all candidates do, or where a number of hubs is wanted as many of the least candidates. Only
+/// where two nodes more are not allowed the search stops, and then the bound is below the cost. Else both are equal and the
+/// plan is optimal. The finding is the same for every separator of the same kind of cuts.
 ///
 /// The answer is `AllocError` where memory runs out, and for a search that would have more cuts or tree lines than a
 /// certificate's text can have, 67,108,864 and 268,435,456.
@@ -50,6 +51,7 @@ pub fn search<R: Rule, S: Separator>(
     ensures paid { IfOk result (λ found. found.cost ≡ plan_cost instance.now found.plan) }
     ensures below { IfOk result (λ found. NoPlanBelow instance.now found.bound) }
     ensures within { IfOk result (λ found. found.bound ≤ found.cost) }
+    ensures at_most { IfOk result (λ found. IsAtMostOf instance.now (first_hubs instance.now) found.cost) }
     ensures most { IfOk result (λ found. length found.tree.items + 1 ≤ 2 ^ (length instance.now.candidates + 1)) }
     ensures allowed { IfOk result (λ found. AreWithin nodes (length found.tree.items)) }
     ensures spent { IfOk result (λ found. found.bound < found.cost → IsSpent nodes (length found.tree.items)) }

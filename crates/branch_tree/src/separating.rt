@@ -5,14 +5,13 @@ ghost use Rattle.hub_spec.specs.Plans.{IsHubSet};
 ghost use Rattle.hub_spec.specs.Separation.{IsOrder};
 ghost use Rattle.cut_pool.specs.Entries.{Lacks};
 ghost use Rattle.search_spec.specs.Steps.{separated};
-ghost use Rattle.separators.specs.Kinds.{parts_for};
+ghost use Rattle.search_progress.specs.Kinds.{parts_for};
 ghost use Rattle.search_progress.specs.Progressing.{state_of, IsGoing, IsAt};
 
 use crate::walk::Walk;
 use plan_model::HubSet;
-use search_progress::separate;
+use search_progress::{Separator, separate};
 use search_steps::Rule;
-use separators::Separator;
 use std::alloc::AllocError;
 
 impl<R: Rule> Walk<'_, R> {

@@ -6,7 +6,7 @@ ghost use Rattle.frac_master.specs.Advice.{advice_of_code};
 ghost use Rattle.search_spec.specs.Choices.{nearest_half};
 ghost use Rattle.search_spec.specs.Steps.{fixed, halved};
 ghost use Rattle.search_steps.specs.Advising.{told_by};
-ghost use Rattle.separators.specs.Kinds.{parts_for};
+ghost use Rattle.search_progress.specs.Kinds.{parts_for};
 ghost use Rattle.search_steps.specs.Weights.{AreNodeWeights, pairs_of, sides_as};
 ghost use Rattle.branch_tree.specs.Lines.{handling, IsDone};
 ghost use Rattle.search_progress.specs.Progressing.{state_of, IsGoing};
@@ -17,9 +17,8 @@ use crate::rounds::RoundEnd;
 use crate::walk::Walk;
 use hub_fixing::Side;
 use plan_model::Branch;
-use search_progress::may_split;
+use search_progress::{Separator, may_split};
 use search_steps::{Rule, nearest};
-use separators::Separator;
 use std::alloc::AllocError;
 
 impl<R: Rule> Walk<'_, R> {

@@ -6,7 +6,7 @@ use Rattle.hub_spec.specs.Problem.{Problem, flow, distance, route_cost}
 use Rattle.hub_spec.specs.Ranges.{IsAmount}
 use Rattle.hub_spec.specs.Cuts.{Prices, IsDual}
 use Rattle.hub_spec.proofs.Sets.{All-from_contains}
-use Rattle.stated_cuts.proofs.DualEntries.{value_at_short}
+use Rattle.cut_model.proofs.DualEntries.{value_at_short}
 use Rattle.cert_checker.specs.Duals.{AreValues, IsCovered, IsCoveredSingle, IsCoveredFrom, IsCoveredByAll}
 
 -- in room of which nothing is used yet each node has the value 0

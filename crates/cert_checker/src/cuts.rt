@@ -18,9 +18,8 @@ use crate::lines::{cut_lines, first_cut_line, last_dual_line};
 use crate::marks::{MarkedCut, check_marked};
 use crate::sums::SummedCut;
 use cert_format::{Certificate, Version};
-use core_marks::Mark;
+use cut_model::{Mark, StatedCut};
 use hub_model::{Instance, MOST_COST};
-use stated_cuts::StatedCut;
 use std::alloc::Global;
 use std::thread::Threads;
 

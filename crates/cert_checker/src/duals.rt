@@ -18,7 +18,7 @@ use cert_format::Version;
 use hub_model::{Instance, MOST_NODES};
 use plan_model::is_among;
 use rayon::prelude::*;
-use stated_cuts::{StatedCut, StatedDual};
+use cut_model::{StatedCut, StatedDual};
 use std::thread::Threads;
 
 /// A thread takes at least so many duals, so that a small cut is tried on one.

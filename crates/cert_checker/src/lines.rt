@@ -8,8 +8,7 @@ ghost use Rattle.cert_checker.specs.Marks.{marked_dual_line, proof_line};
 
 use crate::runs::run_count;
 use cert_format::Version;
-use core_marks::Mark;
-use stated_cuts::StatedCut;
+use cut_model::{Mark, StatedCut};
 
 /// The numbers of nodes and of candidates.
 pub(crate) const SIZE_LINE: u64 = 2;

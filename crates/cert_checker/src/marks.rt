@@ -21,9 +21,8 @@ use crate::lines::{marked_dual_line, proof_line};
 use crate::plans::are_candidates;
 use crate::sums::SummedCut;
 use core_lines::ProofLine;
-use core_marks::{DualProof, Mark};
+use cut_model::{DualProof, Mark, StatedCut, StatedDual};
 use hub_model::Instance;
-use stated_cuts::{StatedCut, StatedDual};
 use std::alloc::Global;
 use std::thread::Threads;
 

@@ -8,7 +8,7 @@ ghost use Rattle.cert_scan.specs.Versions.{version_number};
 ghost use Rattle.cert_checker.specs.Runs.{place_of, begins_run, begun};
 
 use cert_format::Version;
-use stated_cuts::StatedCut;
+use cut_model::StatedCut;
 
 /// How many runs the duals have.
 pub(crate) fn run_count(version: Version, n: u32, cut: &StatedCut) -> u64

@@ -3,9 +3,9 @@
 ghost use Rattle.std.specs.Prelude.{◌≡◌, ◌≤◌, length, IfOk, All};
 ghost use Rattle.hub_spec.specs.Cuts.{total, load};
 ghost use Rattle.hub_spec.specs.Ranges.{IsDualInRange};
-ghost use Rattle.stated_cuts.specs.Totals.{most_duals};
+ghost use Rattle.cut_model.specs.Totals.{most_duals};
 
-use stated_cuts::StatedCut;
+use cut_model::StatedCut;
 use std::alloc::{AllocError, Global};
 use std::marker::Model;
 

@@ -10,7 +10,7 @@ use crate::cuts::is_within_sums;
 use crate::sums::SummedCut;
 use dual_lines::DualLine;
 use hub_model::Instance;
-use stated_cuts::{StatedCut, StatedDual};
+use cut_model::{StatedCut, StatedDual};
 use std::alloc::{AllocError, Global};
 
 /// Tells whether all of these are cuts of the instance.

@@ -1,7 +1,7 @@
 // The mark of the last cut, while more of the cut may come.
 ghost use Rattle.std.specs.Prelude.{◌≡◌, ◌++◌, IfOk};
 
-use core_marks::{DualProof, Mark};
+use cut_model::{DualProof, Mark};
 use std::alloc::{AllocError, Global};
 
 #[derive(Drop)]

@@ -7,9 +7,8 @@ ghost use Rattle.cert_format.specs.Parts.{stated_of, AreCertificateParts, IsHead
 
 use crate::Heading;
 use cert_scan::Version;
-use core_marks::Mark;
+use cut_model::{Mark, StatedCut};
 use plan_model::{Plan, TreeLine};
-use stated_cuts::StatedCut;
 use std::marker::Model;
 
 /// A certificate within the ranges of the grammar: a plan and its cost, and cuts with a tree that are to show that no

@@ -9,10 +9,9 @@ use crate::begun::{BegunLine, LineHead};
 use crate::begun_marks::BegunMark;
 use crate::{Certificate, Heading};
 use cert_scan::{Item, Version};
-use core_marks::{DualProof, Mark};
+use cut_model::{DualProof, Mark, StatedCut};
 use hub_model::signed;
 use plan_model::{Mix, Plan, TreeLine};
-use stated_cuts::StatedCut;
 use std::alloc::{AllocError, Global};
 use std::mem;
 

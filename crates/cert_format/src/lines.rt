@@ -17,7 +17,7 @@ use cert_scan::Version;
 use hub_io::{Buffer, Failed, Sink};
 use hub_model::unsigned;
 use plan_model::{Mix, TreeLine};
-use stated_cuts::StatedDual;
+use cut_model::StatedDual;
 
 // Puts the line of the hubs.
 pub(crate) fn put_hubs<K: Sink>(

@@ -8,9 +8,8 @@ ghost use Rattle.cert_format.specs.Puts.{PutsLine, PutsLines};
 
 use crate::lines::{put_nodes, put_stated_dual};
 use crate::spaced::{put_number, put_words};
-use core_marks::{DualProof, Mark};
+use cut_model::{DualProof, Mark, StatedCut};
 use hub_io::{Buffer, Failed, Sink};
-use stated_cuts::StatedCut;
 
 // Puts the lines of the marked cut of this number.
 pub(crate) fn put_marked<K: Sink>(

@@ -9,7 +9,7 @@ ghost use Rattle.cert_format.specs.DualItems.{row_items, dual_row, no_dual, Equa
 use crate::lines::put_stated_dual;
 use cert_scan::Version;
 use hub_io::{Buffer, Failed, Sink};
-use stated_cuts::{StatedCut, StatedDual};
+use cut_model::{StatedCut, StatedDual};
 use std::marker::Model;
 
 // The duals of the commodities from one node.

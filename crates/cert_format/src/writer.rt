@@ -16,10 +16,9 @@ use crate::rows::put_duals;
 use crate::spaced::put_line;
 use crate::{Certificate, Heading};
 use cert_scan::Version;
-use core_marks::Mark;
+use cut_model::{Mark, StatedCut};
 use hub_io::{Buffer, Failed, Sink};
 use plan_model::{Plan, TreeLine};
-use stated_cuts::StatedCut;
 
 /// Puts the text of a certificate, in puts of about 8192 bytes each. It takes no memory but for those bytes.
 pub fn write_cert<K: Sink>(certificate: &Certificate, sink: &mut K) -> Result<(), Failed>

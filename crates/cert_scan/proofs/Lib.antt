@@ -21,6 +21,7 @@ pub mod Tracks
 pub mod Finishing
 pub mod OnTime
 pub mod Stepping
+pub mod NumberRuns
 pub mod LineRuns
 pub mod PairRuns
 pub mod WayRuns

@@ -1,21 +1,17 @@
--- What is taken at once of a line: its first word, and a number.
-use Rattle.std.proofs.Common.{◌≡◌, ℕ, zero, suc, ◌+◌, ◌<◌, ◌≤◌, Bool, true, false, ◌&&◌, List, [], ◌∷◌, ◌++◌, length, take, get_or, Option, Some, None, nat_eq, nat_lt, refl, sym, ap, ◌∙◌, subst, arith}
+-- The first word of a line, taken at once.
+use Rattle.std.proofs.Common.{◌≡◌, ℕ, zero, suc, ◌+◌, ◌<◌, ◌≤◌, false, ◌&&◌, List, [], ◌∷◌, ◌++◌, length, take, get_or, Some, None, nat_eq, nat_lt, refl, sym, ap, ◌∙◌, arith}
 use Rattle.std.specs.Prelude.{option_to_list, if◌then◌else◌}
 use Rattle.std.proofs.lemmas.Bool.{ltb-true}
 use Rattle.std.proofs.lemmas.List.{length-take-le}
 use Rattle.std.proofs.lemmas.Option.{none-some}
 use Rattle.hub_spec.proofs.SumLemmas.{by_test}
-use Rattle.cert_scan.specs.Moves.{move, moved_by, taken_by, head_at, keyword_of, first_place_of, begun_as, spoiled_by, behind_keyword_by, turned_by, turned_or, first_number_by}
+use Rattle.cert_scan.specs.Moves.{move, moved_by, head_at, keyword_of, first_place_of, begun_as, spoiled_by, behind_keyword_by, turned_by, turned_or, first_number_by}
 use Rattle.cert_scan.specs.Scans.{put, sifted, moved, scanned, given_all}
 use Rattle.cert_scan.specs.Runs.{GoesOn, Takes}
-use Rattle.cert_scan.specs.Ahead.{IsNumberAt}
 use Rattle.cert_scan.proofs.ScanBytes.{quiet_step, quiet_gives}
 use Rattle.cert_scan.proofs.Letters.{letters_scanned, letters_give}
-use Rattle.cert_scan.proofs.Stepping.{HasRun, digits_after, digits_nothing, run_byte, takes_byte, takes_nothing}
-use Rattle.cert_scan.specs.declared.items.Item.{Item}
-use Rattle.cert_scan.specs.declared.bytes.Move.{Move}
+use Rattle.cert_scan.proofs.Stepping.{HasRun, run_byte, takes_nothing}
 use Rattle.cert_scan.specs.declared.bytes.Position.TheVariants.{Start, Keyword, Number}
-use Rattle.cert_scan.specs.declared.digits.ShortNumber.{ShortNumber}
 use Rattle.cert_scan.specs.declared.heads.Head.{Head}
 use Rattle.cert_scan.specs.declared.heads.Head.TheVariants.{VersionLine, SizeLine, CostLine, BoundLine, HubsLine, RouteLine, CutsLine, CutLine, MarkWord, DualLine, DualsLine, ProvedLine, ProofLine, NodesLine, BranchLine, LeafLine, EmptyLine, BlockLine, CountLine, EndLine}
 use Rattle.cert_scan.specs.declared.places.Place.{Place}
@@ -23,38 +19,6 @@ use Rattle.cert_scan.specs.declared.stages.Shape.{Shape}
 use Rattle.cert_scan.specs.declared.stages.Stage.{Stage}
 use Rattle.cert_scan.specs.declared.stages.Stage.TheVariants.{Version, Size, Cost, Bound, Hubs, Route, Cuts, Cut, Dual, ProvedDual, Proof, Nodes, Tree, End, Nothing}
 use Rattle.cert_scan.specs.declared.scanner.Scan.{Scan}
-
--- ---- a number
-
--- the byte behind a number
-pub number_goes : (sh : Shape) (place : Place) (value byte : ℕ) (last : Bool) → (last ≡ true → byte ≡ 10) → (last ≡ false → byte ≡ 32)
-    → moved_by sh (Number place (Some value)) byte ≡ taken_by sh place value last
-number_goes sh place value byte true end more =
-    subst (λ b. moved_by sh (Number place (Some value)) b ≡ taken_by sh place value true) (sym (end refl)) refl
-number_goes sh place value byte false end more =
-    subst (λ b. moved_by sh (Number place (Some value)) b ≡ taken_by sh place value false) (sym (more refl)) refl
-
--- a number that begins, with the byte behind it
-pub takes_number : (old new : Scan) (place : Place) (value : Option ℕ) (bytes : List ℕ) (number : ShortNumber) (item : Option Item) (next : Move)
-    → old.position ≡ Number place value → value ≡ None → IsNumberAt bytes 0 number → next ≡ taken_by old.shape place number.value number.last
-    → item ≡ (sifted old next).item → new ≡ moved old next → Takes old bytes (number.digits + 1) item new
-takes_number old new place value bytes number item next at none is taken gives after =
-    let start : old.position ≡ Number place None = at ∙ ap (Number place) none in
-    let byte = get_or bytes number.digits 0 in
-    let room = is.room in
-    let digits : HasRun old bytes number.digits (put old (Number place (Some number.value))) = record {
-      within = omega arith;
-      after = digits_after old place None (Some number.value) (take number.digits bytes) start is.spells;
-      nothing = digits_nothing old place None (Some number.value) (take number.digits bytes) start is.spells;
-    } in
-    let here : number.digits ≡ 0 + number.digits = omega arith in
-    let behind : get_or bytes number.digits 0 ≡ get_or bytes (0 + number.digits) 0 = ap (λ k. get_or bytes k 0) here in
-    let goes : next ≡ moved_by old.shape (Number place (Some number.value)) (get_or bytes number.digits 0) =
-    taken ∙ sym (number_goes old.shape place number.value byte number.last (λ end. behind ∙ is.line_end end) (λ more. behind ∙ is.more more)) in
-    takes_byte old (put old (Number place (Some number.value))) new bytes number.digits byte item digits (omega arith) refl
-    (gives ∙ ap (λ m. (sifted old m).item) goes) (after ∙ ap (moved old) goes)
-
--- ---- the first word
 
 -- a line begins as its first word does
 start_moves : (sh : Shape) (stage : Stage) (head : Head) (byte : ℕ) → head_at sh.version stage byte ≡ Some head → moved_by sh (Start stage) byte ≡ moved_by sh (Keyword head 0) byte

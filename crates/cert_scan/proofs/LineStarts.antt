@@ -1,21 +1,23 @@
 -- A run that takes the start of the line of a dual or of a proof.
-use Rattle.std.proofs.Common.{◌≡◌, ℕ, ◌+◌, ◌^◌, ◌&&◌, ◌<◌, ◌≤◌, true, false, if◌then◌else◌, List, length, codes, take, drop, get_or, Some, None, nat_eq, nat_lt, nat_le, refl, sym, ap, ◌∙◌, subst, inl, inr, arith}
-use Rattle.std.proofs.lemmas.Bool.{cond-true, cond-false, and_from, le-leb, lt-ltb, eq-eqb}
+use Rattle.std.proofs.Common.{◌≡◌, ℕ, ◌+◌, ◌^◌, ◌&&◌, ◌<◌, ◌≤◌, false, if◌then◌else◌, List, length, codes, take, get_or, Some, None, nat_eq, nat_lt, nat_le, refl, sym, ap, ◌∙◌, subst, inl, inr, arith}
+use Rattle.std.proofs.lemmas.Bool.{cond-true, and_from, le-leb, lt-ltb, eq-eqb}
 use Rattle.core_spec.specs.MarkRanges.{most_turns, most_scale}
 use Rattle.cert_scan.specs.Moves.{moved_by, taken_by, move, refusal, within, amount_limit, subject_run, way_behind}
 use Rattle.cert_scan.specs.Repeats.{DualSoFar, noted_by, repeats_by}
-use Rattle.cert_scan.specs.Scans.{shape_by, line_by, put, with_item, sifted, moved}
+use Rattle.cert_scan.specs.Scans.{put, with_item}
 use Rattle.cert_scan.specs.Runs.{GoesOn, Runs}
-use Rattle.cert_scan.specs.Fronts.{IsSpacedAt, AreNodesAt, IsDualAhead, AreDualsAhead, IsPlainAhead, IsProofAhead}
+use Rattle.cert_scan.specs.Ahead.{IsNumberAt}
+use Rattle.cert_scan.specs.Fronts.{AreNodesAt, IsDualAhead, AreDualsAhead, IsPlainAhead, IsProofAhead}
 use Rattle.cert_scan.proofs.ScanBytes.{quiet_step, quiet_gives}
 use Rattle.cert_scan.proofs.Tracks.{open_quiet}
 use Rattle.cert_scan.proofs.LineRuns.{word_run, space_run, word_goes}
-use Rattle.cert_scan.proofs.Stepping.{HasRun, digits_scanned, digits_give, run_more, run_byte, takes_byte, takes_run}
+use Rattle.cert_scan.proofs.NumberRuns.{number_run, number_gives}
+use Rattle.cert_scan.proofs.PairRuns.{limit_least}
+use Rattle.cert_scan.proofs.Stepping.{HasRun, run_byte}
 use Rattle.cert_scan.specs.declared.items.Version.{Version as TextVersion}
 use Rattle.cert_scan.specs.declared.items.Version.TheVariants.{First, Second, Third}
 use Rattle.cert_scan.specs.declared.items.Item.{Item}
 use Rattle.cert_scan.specs.declared.items.Item.TheVariants.{Dual as dual_item, Proof as proof_item}
-use Rattle.cert_scan.specs.declared.bytes.Move.{Move}
 use Rattle.cert_scan.specs.declared.bytes.Position.TheVariants.{Start, Keyword, Number}
 use Rattle.cert_scan.specs.declared.heads.Head.TheVariants.{DualLine, DualsLine, ProvedLine, ProofLine}
 use Rattle.cert_scan.specs.declared.places.Place.{Place}
@@ -29,46 +31,6 @@ use Rattle.cert_scan.specs.declared.stages.Stage.TheVariants.{Dual, ProvedDual, 
 use Rattle.cert_scan.specs.declared.fronts.DualFront.{DualFront}
 use Rattle.cert_scan.specs.declared.fronts.ProofFront.{ProofFront}
 use Rattle.cert_scan.specs.declared.scanner.Scan.{Scan}
-
--- ---- numbers with a space behind them
-
-spaced_digits : (old : Scan) (bytes : List ℕ) (at value behind : ℕ) (place : Place) → HasRun old bytes at (put old (Number place None))
-    → (is : IsSpacedAt bytes at value behind) → HasRun old bytes (at + is.digits) (put old (Number place (Some value)))
-spaced_digits old bytes at value behind place before is =
-    let room = is.room in
-    let digits = take is.digits (drop at bytes) in
-    run_more old (put old (Number place None)) (put old (Number place (Some value))) bytes at is.digits before (omega (arith, room))
-    (sym (digits_scanned old place None digits (Some value) is.spells)) (digits_give old place None digits (Some value) is.spells)
-
--- behind which another one stands
-spaced_run : (old : Scan) (bytes : List ℕ) (at value behind : ℕ) (place next : Place) → HasRun old bytes at (put old (Number place None))
-    → IsSpacedAt bytes at value behind → taken_by old.shape place value false ≡ move (Number next None) None → HasRun old bytes behind (put old (Number next None))
-spaced_run old bytes at value behind place next before is goes =
-    let whole = put old (Number place (Some value)) in
-    let digits = spaced_digits old bytes at value behind place before is in
-    subst (λ k. HasRun old bytes k (put old (Number next None))) (sym is.ends)
-    (run_byte old whole (put old (Number next None)) bytes (at + is.digits) 32 None digits is.room (sym is.space)
-    (sym (quiet_gives whole 32 (Number next None) goes)) (sym (quiet_step whole 32 (Number next None) goes)) refl)
-
--- the last one, which gives an item
-spaced_gives : (old new : Scan) (bytes : List ℕ) (at value behind : ℕ) (place next : Place) (item : Item) → HasRun old bytes at (put old (Number place None))
-    → IsSpacedAt bytes at value behind → taken_by old.shape place value false ≡ move (Number next None) (Some item)
-    → repeats_by old.shape.version old.so_far (Some item) ≡ false → new ≡ with_item (put old (Number next None)) item → Runs old bytes behind (Some item) new
-spaced_gives old new bytes at value behind place next item before is goes quiet after =
-    let valued = put old (Number place (Some value)) in
-    let given : Move = move (Number next None) (Some item) in
-    let digits = spaced_digits old bytes at value behind place before is in
-    let kept : sifted valued given ≡ given = cond-false (repeats_by old.shape.version old.so_far (Some item)) (refusal true) given quiet in
-    let there : with_item (put old (Number next None)) item ≡ moved valued given = λ i. record {
-      shape = shape_by old.shape (sym kept i).item;
-      line = line_by old.line (sym kept i).position;
-      position = (sym kept i).position;
-      so_far = noted_by old.shape.version old.so_far (Some item);
-    } in
-    subst (λ k. Runs old bytes k (Some item) new) (sym is.ends)
-    (takes_run old new bytes (at + is.digits + 1) (Some item)
-    (takes_byte old valued new bytes (at + is.digits) 32 (Some item) digits is.room (sym is.space)
-    (ap (λ (m : Move). m.item) (sym kept) ∙ ap (λ m. (sifted valued m).item) (sym goes)) (after ∙ there ∙ ap (moved valued) (sym goes))) (λ e. cc))
 
 -- the nodes of a commodity
 node_goes : (sh : Shape) (node : ℕ) (place next : Place)
@@ -84,16 +46,11 @@ nodes_run : (old : Scan) (bytes : List ℕ) (at behind : ℕ) (d : DualAt) (firs
     ≡ (if nat_eq (d.commodity.to + 1) (d.commodity.to + 1) then move (Number third None) None else refusal false)
     → HasRun old bytes behind (put old (Number third None))
 nodes_run old bytes at behind d first second third before are from to =
-    spaced_run old bytes are.between (d.commodity.to + 1) behind second third
-    (spaced_run old bytes at (d.commodity.from + 1) are.between first second before are.from (node_goes old.shape d.commodity.from first second from))
+    number_run old bytes are.between (d.commodity.to + 1) behind second third
+    (number_run old bytes at (d.commodity.from + 1) are.between first second before are.from (node_goes old.shape d.commodity.from first second from))
     are.to (node_goes old.shape d.commodity.to second third to)
 
 -- ---- duals
-
-limit_least : (v : TextVersion) → 10 ^ 30 ≤ amount_limit v
-limit_least First = omega arith
-limit_least Second = omega arith
-limit_least Third = omega arith
 
 abbrev run_at : DualAt → ℕ → Run
 run_at at count = record { first = at; length = count }
@@ -101,13 +58,13 @@ run_at at count = record { first = at; length = count }
 abbrev priced : Run → ℕ → Item
 priced run price = dual_item run.first.commodity.from run.first.commodity.to run.length price false
 
-price_goes : (sh : Shape) (subject : Subject) (price : ℕ) → price < 10 ^ 30
+price_goes : (sh : Shape) (subject : Subject) (price : ℕ) → price < 2 ^ 64
     → taken_by sh (DualPrice subject) price false ≡ move (Number (ValueNode subject 0) None) (Some (priced (subject_run subject) price))
 price_goes sh subject price low =
     cond-true (nat_lt price (amount_limit sh.version)) _ (refusal false) (lt-ltb price (amount_limit sh.version) (omega (arith, low, limit_least sh.version)))
 
 price_gives : (old new : Scan) (bytes : List ℕ) (at : ℕ) (d : DualAt) (subject : Subject) (front : DualFront) (item : Item)
-    → HasRun old bytes at (put old (Number (DualPrice subject) None)) → IsSpacedAt bytes at front.price front.count → front.price < 10 ^ 30
+    → HasRun old bytes at (put old (Number (DualPrice subject) None)) → IsNumberAt bytes at front.price false front.count → front.price < 2 ^ 64
     → subject_run subject ≡ run_at d front.length → item ≡ priced (run_at d front.length) front.price
     → new ≡ with_item (put old (Number (ValueNode subject 0) None)) item → Runs old bytes front.count (Some item) new
 price_gives old new bytes at d subject front item before is low run gives after =
@@ -115,7 +72,7 @@ price_gives old new bytes at d subject front item before is low run gives after 
     let quiet : repeats_by old.shape.version old.so_far (Some item) ≡ false =
     ap (λ x. repeats_by old.shape.version old.so_far (Some x)) gives
     ∙ open_quiet old.shape.version old.so_far (Some (priced (run_at d front.length) front.price)) (refl, tt) in
-    spaced_gives old new bytes at front.price front.count (DualPrice subject) (ValueNode subject 0) item before is
+    number_gives old new bytes at front.price front.count (DualPrice subject) (ValueNode subject 0) item before is
     (price_goes old.shape subject front.price low ∙ ap (λ x. move (Number (ValueNode subject 0) None) (Some x)) (sym listed)) quiet after
 
 pub proved_gives : (old new : Scan) (d : DualAt) (bytes : List ℕ) (front : DualFront) (item : Item) → old.position ≡ Start (ProvedDual d)
@@ -172,7 +129,7 @@ run_gives old new d bytes front item is other ahead gives after =
     let room = ahead.nodes.from.room in
     let word = duals_word old d bytes is other ahead.word ahead.letter ahead.space (omega (arith, room)) in
     let nodes = nodes_run old bytes 6 ahead.at d (RunFrom d) (RunTo d) (RunLength d) word ahead.nodes refl refl in
-    let length_run = spaced_run old bytes ahead.at front.length ahead.behind (RunLength d) (DualPrice (Plain (run_at d front.length))) nodes ahead.run
+    let length_run = number_run old bytes ahead.at front.length ahead.behind (RunLength d) (DualPrice (Plain (run_at d front.length))) nodes ahead.run
     (length_goes old.shape d front.length ahead.several ahead.within) in
     price_gives old new bytes ahead.behind d (Plain (run_at d front.length)) front item length_run ahead.price ahead.low refl gives after
 
@@ -202,7 +159,7 @@ proof_gives old d bytes front is ahead =
     let listed : Item = proof_item front.turns front.scale false in
     let next = put old (Number (WayFrom (way_behind d 0 0)) None) in
     let word = word_goes old (Proof d) (ProofLine d) (ProofTurns d) bytes 5 is refl refl ahead.word (omega arith) (omega (arith, room)) ahead.space in
-    let turns = spaced_run old bytes 6 front.turns ahead.at (ProofTurns d) (ProofScale d front.turns) word ahead.turns
+    let turns = number_run old bytes 6 front.turns ahead.at (ProofTurns d) (ProofScale d front.turns) word ahead.turns
     (cond-true (nat_le front.turns most_turns) _ _ (le-leb front.turns most_turns ahead.few)) in
     let scale = cond-true (within front.scale most_scale) _ (refusal false)
     (and_from (nat_le 1 front.scale) (nat_le front.scale most_scale) (le-leb 1 front.scale ahead.some) (le-leb front.scale most_scale ahead.most)) in
@@ -212,5 +169,5 @@ proof_gives old d bytes front is ahead =
       position = Number (WayFrom (way_behind d 0 0)) None;
       so_far = sym (proof_noted old.shape.version old.so_far front.turns front.scale) i;
     } in
-    spaced_gives old next bytes ahead.at front.scale front.count (ProofScale d front.turns) (WayFrom (way_behind d 0 0)) listed turns ahead.scale scale
+    number_gives old next bytes ahead.at front.scale front.count (ProofScale d front.turns) (WayFrom (way_behind d 0 0)) listed turns ahead.scale scale
     (proof_repeats old.shape.version old.so_far front.turns front.scale) noted

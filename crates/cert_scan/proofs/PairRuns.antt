@@ -1,16 +1,15 @@
 -- A run that takes a node and a value of a dual.
-use Rattle.std.proofs.Common.{◌≡◌, ℕ, ◌+◌, ◌-◌, ◌^◌, ◌&&◌, ◌<◌, ◌≤◌, Bool, true, false, List, length, take, drop, get_or, Option, Some, None, nat_le, nat_lt, refl, sym, ap, ◌∙◌, subst, arith}
+use Rattle.std.proofs.Common.{◌≡◌, ℕ, ◌+◌, ◌-◌, ◌^◌, ◌&&◌, ◌<◌, ◌≤◌, Bool, true, false, List, length, take, drop, Option, Some, None, nat_le, nat_lt, refl, sym, ap, ◌∙◌, subst, arith}
 use Rattle.std.proofs.lemmas.List.{length-drop, length-take-le}
-use Rattle.std.proofs.lemmas.Bool.{cond_both, cond-true, cond-false, and_from, le-leb, lt-ltb}
-use Rattle.cert_scan.specs.Moves.{moved_by, taken_by, move, refusal, open_by, amount_limit, stage_after_subject, follows}
-use Rattle.cert_scan.specs.Repeats.{noted_by, repeats_by}
-use Rattle.cert_scan.specs.Scans.{shape_by, line_by, put, with_item, sifted, moved}
-use Rattle.cert_scan.specs.Runs.{Runs}
-use Rattle.cert_scan.specs.Ahead.{IsPairAhead}
-use Rattle.cert_scan.proofs.ScanBytes.{quiet_step, quiet_gives}
+use Rattle.std.proofs.lemmas.Bool.{cond_both, cond-true, and_from, le-leb, lt-ltb}
+use Rattle.cert_scan.specs.Moves.{taken_by, move, refusal, open_by, amount_limit, stage_after_subject, follows}
+use Rattle.cert_scan.specs.Repeats.{repeats_by}
+use Rattle.cert_scan.specs.Scans.{put, with_item, sifted, moved}
+use Rattle.cert_scan.specs.Runs.{Takes, Runs}
+use Rattle.cert_scan.specs.Ahead.{IsNumberAt, IsPairAhead}
 use Rattle.cert_scan.proofs.Tracks.{open_quiet}
-use Rattle.cert_scan.proofs.LineRuns.{number_goes}
-use Rattle.cert_scan.proofs.Stepping.{HasRun, digits_after, digits_nothing, digits_scanned, digits_give, run_more, run_digits, run_byte, takes_byte, takes_run, run_end, failed_after, failed_nothing}
+use Rattle.cert_scan.proofs.NumberRuns.{number_begins, number_run, number_takes, number_gives, takes_quietly}
+use Rattle.cert_scan.proofs.Stepping.{HasRun, run_digits, takes_run, run_end, failed_after, failed_nothing}
 use Rattle.cert_scan.specs.declared.items.Version.{Version as TextVersion}
 use Rattle.cert_scan.specs.declared.items.Version.TheVariants.{First, Second, Third}
 use Rattle.cert_scan.specs.declared.stages.Stage.{Stage}
@@ -28,7 +27,7 @@ use Rattle.cert_scan.specs.declared.scanner.Scan.{Scan}
 
 -- the space behind a node's number
 node_goes : (sh : Shape) (before number : ℕ) (subject : Subject) → before < number → number ≤ sh.n
-    → moved_by sh (Number (ValueNode subject before) (Some number)) 32 ≡ move (Number (ValueAmount subject number) None) None
+    → taken_by sh (ValueNode subject before) number false ≡ move (Number (ValueAmount subject number) None) None
 node_goes sh before number subject above within =
     cond-true (follows sh.n before number) _ _ (and_from (nat_lt before number) (nat_le number sh.n) (lt-ltb before number above) (le-leb number sh.n within))
 
@@ -43,52 +42,31 @@ pub stands_at : (position : Position) (subject of : Subject) (before other : ℕ
 stands_at position subject of before other place value at is e =
     at ∙ ap (λ r. Number (ValueNode r before) None) (same_subject subject of before other value (sym at ∙ is ∙ ap (λ p. Number p value) e))
 
--- the bytes before the last one of the pair
-pair_front : (old : Scan) (subject : Subject) (before : ℕ) (bytes : List ℕ) (pair : Pair) → old.position ≡ Number (ValueNode subject before) None
-    → IsPairAhead old.shape.n before bytes pair
-    → HasRun old bytes (pair.front + 1 + pair.back) (put old (Number (ValueAmount subject pair.number) (Some pair.value)))
-pair_front old subject before bytes pair is ahead =
-    let room = ahead.room in
-    let noded = put old (Number (ValueNode subject before) (Some pair.number)) in
-    let spaced = put old (Number (ValueAmount subject pair.number) None) in
-    let valued = put old (Number (ValueAmount subject pair.number) (Some pair.value)) in
-    let digits = take pair.back (drop (pair.front + 1) bytes) in
-    let first : HasRun old bytes pair.front (put old (Number (ValueNode subject before) (Some pair.number))) = record {
-      within = omega arith;
-      after = digits_after old (ValueNode subject before) None (Some pair.number) (take pair.front bytes) is ahead.node;
-      nothing = digits_nothing old (ValueNode subject before) None (Some pair.number) (take pair.front bytes) is ahead.node;
-    } in
-    let node = node_goes old.shape before pair.number subject ahead.above ahead.within in
-    let second : HasRun old bytes (pair.front + 1) (put old (Number (ValueAmount subject pair.number) None)) =
-    run_byte old noded spaced bytes pair.front 32 None first (omega arith) (sym ahead.space)
-    (sym (quiet_gives noded 32 (Number (ValueAmount subject pair.number) None) node))
-    (sym (quiet_step noded 32 (Number (ValueAmount subject pair.number) None) node)) refl in
-    run_more old spaced valued bytes (pair.front + 1) pair.back second (omega (arith, room))
-    (sym (digits_scanned old (ValueAmount subject pair.number) None digits (Some pair.value) ahead.amount))
-    (digits_give old (ValueAmount subject pair.number) None digits (Some pair.value) ahead.amount)
+-- the node of the pair
+pair_node : (old : Scan) (subject : Subject) (before : ℕ) (bytes : List ℕ) (pair : Pair) → old.position ≡ Number (ValueNode subject before) None
+    → (ahead : IsPairAhead old.shape.n before bytes pair) → HasRun old bytes ahead.at (put old (Number (ValueAmount subject pair.number) None))
+pair_node old subject before bytes pair is ahead =
+    number_run old bytes 0 pair.number ahead.at (ValueNode subject before) (ValueAmount subject pair.number) (number_begins old bytes (ValueNode subject before) is)
+    ahead.node (node_goes old.shape before pair.number subject ahead.above ahead.within)
 
--- what the last byte of the pair moves
-pair_goes : (old : Scan) (subject : Subject) (before : ℕ) (bytes : List ℕ) (pair : Pair) (next : Move) → IsPairAhead old.shape.n before bytes pair
-    → next ≡ taken_by old.shape (ValueAmount subject pair.number) pair.value pair.last
-    → next ≡ moved_by old.shape (Number (ValueAmount subject pair.number) (Some pair.value)) (get_or bytes (pair.front + 1 + pair.back) 0)
-pair_goes old subject before bytes pair next ahead taken =
-    taken ∙ sym (number_goes old.shape (ValueAmount subject pair.number) pair.value
-    (get_or bytes (pair.front + 1 + pair.back) 0) pair.last ahead.line_end ahead.more)
+-- the pair is taken
+pair_takes : (old new : Scan) (subject : Subject) (before : ℕ) (bytes : List ℕ) (pair : Pair) (item : Option Item) (next : Move)
+    → old.position ≡ Number (ValueNode subject before) None → IsPairAhead old.shape.n before bytes pair
+    → next ≡ taken_by old.shape (ValueAmount subject pair.number) pair.value pair.last → item ≡ (sifted old next).item → new ≡ moved old next
+    → Takes old bytes pair.behind item new
+pair_takes old new subject before bytes pair item next is ahead taken gives after =
+    number_takes old new bytes ahead.at pair.value pair.last pair.behind (ValueAmount subject pair.number) item next (pair_node old subject before bytes pair is ahead)
+    ahead.amount taken gives after
 
--- the pair is taken, and gives its item
+-- and gives its item
 pub pair_runs : (old new : Scan) (subject : Subject) (before : ℕ) (bytes : List ℕ) (pair : Pair) (item : Option Item) (next : Move)
     → old.position ≡ Number (ValueNode subject before) None → IsPairAhead old.shape.n before bytes pair
     → next ≡ taken_by old.shape (ValueAmount subject pair.number) pair.value pair.last → item ≡ (sifted old next).item → new ≡ moved old next
-    → (item ≡ None → ⊥) → Runs old bytes (pair.front + 1 + pair.back + 1) item new
+    → (item ≡ None → ⊥) → Runs old bytes pair.behind item new
 pair_runs old new subject before bytes pair item next is ahead taken gives after some =
-    let valued = put old (Number (ValueAmount subject pair.number) (Some pair.value)) in
-    let byte = get_or bytes (pair.front + 1 + pair.back) 0 in
-    let goes = pair_goes old subject before bytes pair next ahead taken in
-    takes_run old new bytes (pair.front + 1 + pair.back + 1) item
-    (takes_byte old valued new bytes (pair.front + 1 + pair.back) byte item (pair_front old subject before bytes pair is ahead) ahead.room refl
-    (gives ∙ ap (λ m. (sifted old m).item) goes) (after ∙ ap (moved old) goes)) some
+    takes_run old new bytes pair.behind item (pair_takes old new subject before bytes pair item next is ahead taken gives after) some
 
-limit_least : (v : TextVersion) → 2 ^ 64 ≤ amount_limit v
+pub limit_least : (v : TextVersion) → 2 ^ 64 ≤ amount_limit v
 limit_least First = omega arith
 limit_least Second = omega arith
 limit_least Third = omega arith
@@ -126,22 +104,19 @@ pub pair_fails : (old new : Scan) (subject : Subject) (before : ℕ) (bytes : Li
     → next ≡ taken_by old.shape (ValueAmount subject pair.number) pair.value pair.last → item ≡ (sifted old next).item → new ≡ moved old next
     → item ≡ None → Runs old bytes (length bytes) None new
 pair_fails old new subject before bytes pair item next is ahead taken gives after none =
-    let valued = put old (Number (ValueAmount subject pair.number) (Some pair.value)) in
-    let byte = get_or bytes (pair.front + 1 + pair.back) 0 in
-    let goes = pair_goes old subject before bytes pair next ahead taken in
-    let count = pair.front + 1 + pair.back + 1 in
+    let count = pair.behind in
     let rest = take (length bytes - count) (take (length bytes - count) (drop count bytes)) in
-    let room = ahead.room in
+    let takes = pair_takes old new subject before bytes pair item next is ahead taken gives after in
+    let within = takes.within in
     let some : next.item ≡ None → ⊥ =
     λ e. value_given old.shape subject pair.number pair.value pair.last ahead.some ahead.few (sym (ap (λ (m : Move). m.item) taken) ∙ e) in
     let failed : new.position ≡ Failed = ap (λ s. s.position) after ∙ sifted_failed old next some (sym gives ∙ none) in
-    let pair_run = run_byte old valued new bytes (pair.front + 1 + pair.back) byte item (pair_front old subject before bytes pair is ahead) ahead.room refl
-    (gives ∙ ap (λ m. (sifted old m).item) goes) (after ∙ ap (moved old) goes) none in
     let long : length (take (length bytes - count) (drop count bytes)) ≡ length bytes - count =
     length-take-le (length bytes - count) (drop count bytes) (omega (arith, length-drop count bytes)) in
     let all : HasRun old bytes (count + (length bytes - count)) new =
-    run_digits old new new bytes count (length bytes - count) pair_run (omega (arith, long)) (failed_after new rest failed) (failed_nothing new rest failed) in
-    let whole : count + (length bytes - count) ≡ length bytes = omega (arith, room) in
+    run_digits old new new bytes count (length bytes - count) (takes_quietly old new bytes pair.behind item takes none) (omega (arith, long))
+    (failed_after new rest failed) (failed_nothing new rest failed) in
+    let whole : count + (length bytes - count) ≡ length bytes = omega (arith, within) in
     run_end old new bytes (length bytes) (subst (λ k. HasRun old bytes k new) whole all) (omega arith)
 
 -- a pair behind which the line goes on
@@ -149,20 +124,10 @@ pub pair_lists : (old new : Scan) (subject : Subject) (before : ℕ) (bytes : Li
     → old.position ≡ Number (ValueNode subject before) None → IsPairAhead old.shape.n before bytes pair → pair.last ≡ false
     → item ≡ pair_item (pair.number - 1) pair.value false
     → new ≡ with_item (put old (Number (ValueNode subject pair.number) None)) item
-    → Runs old bytes (pair.front + 1 + pair.back + 1) (Some item) new
+    → Runs old bytes pair.behind (Some item) new
 pair_lists old new subject before bytes pair item is ahead more given after =
     let listed : Item = pair_item (pair.number - 1) pair.value false in
-    let next : Move = move (Number (ValueNode subject pair.number) None) (Some (pair_item (pair.number - 1) pair.value false)) in
-    let taken : next ≡ taken_by old.shape (ValueAmount subject pair.number) pair.value pair.last =
-    sym (ap (taken_by old.shape (ValueAmount subject pair.number) pair.value) more
-    ∙ value_moves old.shape subject pair.number pair.value ahead.some ahead.few) in
-    let kept : sifted old next ≡ next =
-    cond-false (repeats_by old.shape.version old.so_far (Some listed)) (refusal true) next (open_quiet old.shape.version old.so_far (Some listed) (refl, tt)) in
-    let there : with_item (put old (Number (ValueNode subject pair.number) None)) listed ≡ moved old next = λ i. record {
-      shape = shape_by old.shape (sym kept i).item;
-      line = line_by old.line (sym kept i).position;
-      position = (sym kept i).position;
-      so_far = noted_by old.shape.version old.so_far (Some listed);
-    } in
-    pair_runs old new subject before bytes pair (Some item) next is ahead taken (ap Some given ∙ ap (λ (m : Move). m.item) (sym kept))
-    (after ∙ ap (with_item (put old (Number (ValueNode subject pair.number) None))) given ∙ there) (λ e. cc)
+    number_gives old new bytes ahead.at pair.value pair.behind (ValueAmount subject pair.number) (ValueNode subject pair.number) item
+    (pair_node old subject before bytes pair is ahead) (subst (λ last. IsNumberAt bytes ahead.at pair.value last pair.behind) more ahead.amount)
+    (value_moves old.shape subject pair.number pair.value ahead.some ahead.few ∙ ap (λ x. move (Number (ValueNode subject pair.number) None) (Some x)) (sym given))
+    (ap (λ x. repeats_by old.shape.version old.so_far (Some x)) given ∙ open_quiet old.shape.version old.so_far (Some listed) (refl, tt)) after

@@ -1,15 +1,14 @@
 -- A run that takes a way of a proof.
-use Rattle.std.proofs.Common.{◌≡◌, ℕ, ◌+◌, ◌-◌, ◌&&◌, ◌≤◌, Bool, true, false, List, take, drop, get_or, Option, Some, None, nat_le, refl, sym, ap, ◌∙◌, arith}
+use Rattle.std.proofs.Common.{◌≡◌, ℕ, ◌-◌, ◌&&◌, ◌≤◌, Bool, true, false, List, Option, Some, None, nat_le, refl, sym, ap, ◌∙◌, subst, arith}
 use Rattle.std.proofs.lemmas.Bool.{cond-true, cond-false, and_from, le-leb}
 use Rattle.core_spec.specs.MarkRanges.{most_taken}
-use Rattle.cert_scan.specs.Moves.{moved_by, taken_by, move, refusal, open_by, within, way_behind, is_later_way, stage_after_proof}
+use Rattle.cert_scan.specs.Moves.{taken_by, move, refusal, open_by, within, way_behind, is_later_way, stage_after_proof}
 use Rattle.cert_scan.specs.Repeats.{DualSoFar, noted_by, repeats_by}
-use Rattle.cert_scan.specs.Scans.{shape_by, line_by, put, sifted, moved}
+use Rattle.cert_scan.specs.Scans.{put, with_item, sifted, moved}
 use Rattle.cert_scan.specs.Runs.{Runs}
-use Rattle.cert_scan.specs.Ahead.{IsWayAhead}
-use Rattle.cert_scan.proofs.ScanBytes.{quiet_step, quiet_gives}
-use Rattle.cert_scan.proofs.LineRuns.{number_goes}
-use Rattle.cert_scan.proofs.Stepping.{HasRun, digits_after, digits_nothing, digits_scanned, digits_give, run_more, run_byte, takes_byte, takes_run}
+use Rattle.cert_scan.specs.Ahead.{IsNumberAt, IsWayAhead}
+use Rattle.cert_scan.proofs.NumberRuns.{number_begins, number_run, number_takes, number_gives}
+use Rattle.cert_scan.proofs.Stepping.{HasRun, takes_run}
 use Rattle.cert_scan.specs.declared.items.Version.{Version as TextVersion}
 use Rattle.cert_scan.specs.declared.items.Version.TheVariants.{First, Second, Third}
 use Rattle.cert_scan.specs.declared.stages.Stage.{Stage}
@@ -34,82 +33,28 @@ pub same_way : (position : Position) (at before : WaysAt) (place : Place) (value
 same_way position at before place value is found e = way_of at before value (sym is ∙ found ∙ ap (λ p. Number p value) e)
 
 -- the space behind the first node
-first_goes : (sh : Shape) (at : WaysAt) (from : ℕ) → 1 ≤ from → from ≤ sh.n
-    → moved_by sh (Number (WayFrom at) (Some from)) 32 ≡ move (Number (WayTo at from) None) None
+first_goes : (sh : Shape) (at : WaysAt) (from : ℕ) → 1 ≤ from → from ≤ sh.n → taken_by sh (WayFrom at) from false ≡ move (Number (WayTo at from) None) None
 first_goes sh at from some fits =
     cond-true (within from sh.n) _ _ (and_from (nat_le 1 from) (nat_le from sh.n) (le-leb 1 from some) (le-leb from sh.n fits))
 
 -- and behind the second
 second_goes : (sh : Shape) (at : WaysAt) (from to : ℕ) → from ≤ to → to ≤ sh.n → is_later_way at from to ≡ true
-    → moved_by sh (Number (WayTo at from) (Some to)) 32 ≡ move (Number (WayTaken (way_behind at.dual from to)) None) None
+    → taken_by sh (WayTo at from) to false ≡ move (Number (WayTaken (way_behind at.dual from to)) None) None
 second_goes sh at from to order fits later =
     cond-true (nat_le from to && (nat_le to sh.n && is_later_way at from to)) _ _
     (and_from (nat_le from to) (nat_le to sh.n && is_later_way at from to) (le-leb from to order)
     (and_from (nat_le to sh.n) (is_later_way at from to) (le-leb to sh.n fits) later))
 
--- the nodes, and the spaces behind them
-way_nodes : (old : Scan) (at : WaysAt) (bytes : List ℕ) (way : Way) → old.position ≡ Number (WayFrom at) None → IsWayAhead old.shape.n at bytes way
-    → HasRun old bytes (way.front + 1 + way.middle + 1) (put old (Number (WayTaken (way_behind at.dual way.from way.to)) None))
+-- the nodes
+way_nodes : (old : Scan) (at : WaysAt) (bytes : List ℕ) (way : Way) → old.position ≡ Number (WayFrom at) None → (ahead : IsWayAhead old.shape.n at bytes way)
+    → HasRun old bytes ahead.next (put old (Number (WayTaken (way_behind at.dual way.from way.to)) None))
 way_nodes old at bytes way is ahead =
-    let room = ahead.room in
     let order = ahead.order in
     let fits = ahead.within in
-    let begun = put old (Number (WayFrom at) (Some way.from)) in
-    let spaced = put old (Number (WayTo at way.from) None) in
-    let whole = put old (Number (WayTo at way.from) (Some way.to)) in
-    let counted = put old (Number (WayTaken (way_behind at.dual way.from way.to)) None) in
-    let digits = take way.middle (drop (way.front + 1) bytes) in
-    let first : HasRun old bytes way.front (put old (Number (WayFrom at) (Some way.from))) = record {
-      within = omega arith;
-      after = digits_after old (WayFrom at) None (Some way.from) (take way.front bytes) is ahead.first;
-      nothing = digits_nothing old (WayFrom at) None (Some way.from) (take way.front bytes) is ahead.first;
-    } in
-    let node = first_goes old.shape at way.from ahead.node (omega arith) in
-    let second : HasRun old bytes (way.front + 1) (put old (Number (WayTo at way.from) None)) =
-    run_byte old begun spaced bytes way.front 32 None first (omega arith) (sym ahead.space)
-    (sym (quiet_gives begun 32 (Number (WayTo at way.from) None) node)) (sym (quiet_step begun 32 (Number (WayTo at way.from) None) node)) refl in
-    let third : HasRun old bytes (way.front + 1 + way.middle) (put old (Number (WayTo at way.from) (Some way.to))) =
-    run_more old spaced whole bytes (way.front + 1) way.middle second (omega (arith, room))
-    (sym (digits_scanned old (WayTo at way.from) None digits (Some way.to) ahead.second))
-    (digits_give old (WayTo at way.from) None digits (Some way.to) ahead.second) in
-    let other = second_goes old.shape at way.from way.to order fits ahead.behind in
-    run_byte old whole counted bytes (way.front + 1 + way.middle) 32 None third (omega arith) (sym ahead.gap)
-    (sym (quiet_gives whole 32 (Number (WayTaken (way_behind at.dual way.from way.to)) None) other))
-    (sym (quiet_step whole 32 (Number (WayTaken (way_behind at.dual way.from way.to)) None) other)) refl
-
--- the bytes before the last one of the way
-way_front : (old : Scan) (at : WaysAt) (bytes : List ℕ) (way : Way) → old.position ≡ Number (WayFrom at) None → IsWayAhead old.shape.n at bytes way
-    → HasRun old bytes (way.front + 1 + way.middle + 1 + way.back) (put old (Number (WayTaken (way_behind at.dual way.from way.to)) (Some way.taken)))
-way_front old at bytes way is ahead =
-    let room = ahead.room in
-    let place = WayTaken (way_behind at.dual way.from way.to) in
-    let counted = put old (Number (WayTaken (way_behind at.dual way.from way.to)) None) in
-    let valued = put old (Number (WayTaken (way_behind at.dual way.from way.to)) (Some way.taken)) in
-    let digits = take way.back (drop (way.front + 1 + way.middle + 1) bytes) in
-    run_more old counted valued bytes (way.front + 1 + way.middle + 1) way.back (way_nodes old at bytes way is ahead) (omega (arith, room))
-    (sym (digits_scanned old place None digits (Some way.taken) ahead.third)) (digits_give old place None digits (Some way.taken) ahead.third)
-
--- what the last byte of the way moves
-way_goes : (old : Scan) (at : WaysAt) (bytes : List ℕ) (way : Way) (next : Move) → IsWayAhead old.shape.n at bytes way
-    → next ≡ taken_by old.shape (WayTaken (way_behind at.dual way.from way.to)) way.taken way.last
-    → next ≡ moved_by old.shape (Number (WayTaken (way_behind at.dual way.from way.to)) (Some way.taken))
-    (get_or bytes (way.front + 1 + way.middle + 1 + way.back) 0)
-way_goes old at bytes way next ahead taken =
-    taken ∙ sym (number_goes old.shape (WayTaken (way_behind at.dual way.from way.to)) way.taken
-    (get_or bytes (way.front + 1 + way.middle + 1 + way.back) 0) way.last ahead.line_end ahead.more)
-
--- the way is taken, and gives its item
-way_runs : (old new : Scan) (at : WaysAt) (bytes : List ℕ) (way : Way) (item : Option Item) (next : Move)
-    → old.position ≡ Number (WayFrom at) None → IsWayAhead old.shape.n at bytes way
-    → next ≡ taken_by old.shape (WayTaken (way_behind at.dual way.from way.to)) way.taken way.last → item ≡ (sifted old next).item
-    → new ≡ moved old next → (item ≡ None → ⊥) → Runs old bytes (way.front + 1 + way.middle + 1 + way.back + 1) item new
-way_runs old new at bytes way item next is ahead taken gives after some =
-    let valued = put old (Number (WayTaken (way_behind at.dual way.from way.to)) (Some way.taken)) in
-    let byte = get_or bytes (way.front + 1 + way.middle + 1 + way.back) 0 in
-    let goes = way_goes old at bytes way next ahead taken in
-    takes_run old new bytes (way.front + 1 + way.middle + 1 + way.back + 1) item
-    (takes_byte old valued new bytes (way.front + 1 + way.middle + 1 + way.back) byte item (way_front old at bytes way is ahead) ahead.room refl
-    (gives ∙ ap (λ m. (sifted old m).item) goes) (after ∙ ap (moved old) goes)) some
+    number_run old bytes ahead.between way.to ahead.next (WayTo at way.from) (WayTaken (way_behind at.dual way.from way.to))
+    (number_run old bytes 0 way.from ahead.between (WayFrom at) (WayTo at way.from) (number_begins old bytes (WayFrom at) is) ahead.first
+    (first_goes old.shape at way.from ahead.node (omega arith)))
+    ahead.second (second_goes old.shape at way.from way.to order fits ahead.behind)
 
 -- a way is part of no dual
 way_repeats : (v : TextVersion) (so_far : DualSoFar) (k m y : ℕ) (last : Bool) → repeats_by v so_far (Some (way_item k m y last)) ≡ false
@@ -145,7 +90,7 @@ none_given item listed given none = cc
 pub way_ends : (old new : Scan) (at : WaysAt) (bytes : List ℕ) (way : Way) (item : Option Item) (next : Move)
     → old.position ≡ Number (WayFrom at) None → IsWayAhead old.shape.n at bytes way
     → next ≡ taken_by old.shape (WayTaken (way_behind at.dual way.from way.to)) way.taken way.last → item ≡ (sifted old next).item
-    → new ≡ moved old next → Runs old bytes (way.front + 1 + way.middle + 1 + way.back + 1) item new
+    → new ≡ moved old next → Runs old bytes way.behind item new
 way_ends old new at bytes way item next is ahead taken gives after =
     let listed : Item = way_item (way.from - 1) (way.to - 1) way.taken way.last in
     let place = way_behind at.dual way.from way.to in
@@ -154,25 +99,29 @@ way_ends old new at bytes way item next is ahead taken gives after =
     ∙ open_item way.last listed (WayFrom place) (stage_after_proof old.shape.n at.dual) in
     let kept = way_kept old next (way.from - 1) (way.to - 1) way.taken way.last told in
     let given : item ≡ Some (way_item (way.from - 1) (way.to - 1) way.taken way.last) = gives ∙ ap (λ (m : Move). m.item) kept ∙ told in
-    way_runs old new at bytes way item next is ahead taken gives after (λ none. none_given item listed given none)
+    takes_run old new bytes way.behind item
+    (number_takes old new bytes ahead.next way.taken way.last way.behind (WayTaken place) item next (way_nodes old at bytes way is ahead) ahead.third taken gives after)
+    (λ none. none_given item listed given none)
 
 -- a way behind which the line goes on
 pub way_lists : (old new : Scan) (at : WaysAt) (bytes : List ℕ) (way : Way) (item : Item)
     → old.position ≡ Number (WayFrom at) None → IsWayAhead old.shape.n at bytes way → way.last ≡ false
     → item ≡ way_item (way.from - 1) (way.to - 1) way.taken false
     → new ≡ put old (Number (WayFrom (way_behind at.dual way.from way.to)) None)
-    → Runs old bytes (way.front + 1 + way.middle + 1 + way.back + 1) (Some item) new
+    → Runs old bytes way.behind (Some item) new
 way_lists old new at bytes way item is ahead more given after =
     let place = way_behind at.dual way.from way.to in
-    let next : Move = move (Number (WayFrom place) None) (Some (way_item (way.from - 1) (way.to - 1) way.taken false)) in
-    let taken : next ≡ taken_by old.shape (WayTaken (way_behind at.dual way.from way.to)) way.taken way.last =
-    sym (ap (taken_by old.shape (WayTaken place) way.taken) more ∙ taken_moves old.shape place way.taken false ahead.some ahead.few) in
-    let kept : sifted old next ≡ next = way_kept old next (way.from - 1) (way.to - 1) way.taken false refl in
-    let noted = way_noted old.shape.version old.so_far (way.from - 1) (way.to - 1) way.taken false in
-    let there : put old (Number (WayFrom (way_behind at.dual way.from way.to)) None) ≡ moved old next = λ i. record {
-      shape = shape_by old.shape (sym kept i).item;
-      line = line_by old.line (sym kept i).position;
-      position = (sym kept i).position;
-      so_far = sym noted i;
+    let next = put old (Number (WayFrom place) None) in
+    let listed : Item = way_item (way.from - 1) (way.to - 1) way.taken false in
+    let noted : put old (Number (WayFrom place) None) ≡ with_item next listed = λ i. record {
+      shape = old.shape;
+      line = old.line;
+      position = Number (WayFrom place) None;
+      so_far = sym (way_noted old.shape.version old.so_far (way.from - 1) (way.to - 1) way.taken false) i;
     } in
-    way_runs old new at bytes way (Some item) next is ahead taken (ap Some given ∙ ap (λ (m : Move). m.item) (sym kept)) (after ∙ there) (λ e. cc)
+    number_gives old new bytes ahead.next way.taken way.behind (WayTaken place) (WayFrom place) item (way_nodes old at bytes way is ahead)
+    (subst (λ last. IsNumberAt bytes ahead.next way.taken last way.behind) more ahead.third)
+    (taken_moves old.shape place way.taken false ahead.some ahead.few ∙ ap (λ x. move (Number (WayFrom place) None) (Some x)) (sym given))
+    (ap (λ x. repeats_by old.shape.version old.so_far (Some x)) given
+    ∙ way_repeats old.shape.version old.so_far (way.from - 1) (way.to - 1) way.taken false)
+    (after ∙ noted ∙ ap (with_item next) (sym given))

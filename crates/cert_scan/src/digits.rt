@@ -1,9 +1,8 @@
 //! Digits that spell a number.
-ghost use Rattle.std.specs.Prelude.{◌≡◌, ◌+◌, ◌-◌, ◌*◌, ◌^◌, ◌<◌, ◌≤◌, [], ◌∷◌, length, take, drop, Some, None, IfSome, true, false};
+ghost use Rattle.std.specs.Prelude.{◌≡◌, ◌+◌, ◌-◌, ◌*◌, ◌^◌, ◌<◌, ◌≤◌, [], ◌∷◌, length, take, drop, Some, None, IfSome, false};
 ghost use Rattle.cert_scan.specs.Runs.{SpellsOn};
 ghost use Rattle.cert_scan.specs.Digits.{Spell};
-ghost use Rattle.cert_scan.specs.Ahead.{IsNumberAt};
-ghost use Rattle.cert_scan.specs.Fronts.{IsSpacedAt};
+ghost use Rattle.cert_scan.specs.Ahead.{IsNumberAt, byte_behind};
 
 use crate::bytes::with_digit;
 use crate::words::{leading_digits, word_at};
@@ -46,46 +45,40 @@ static LEAST: [u64; SHORT + 1] = [
     100_000_000_000_000_000,
 ];
 
-// A number of few digits. `last` says that its line ends behind it; else a space stands there.
+// A number of few digits. `last` says that its line ends with the byte behind it; else a space stands there. The bytes go
+// on `behind` that.
 #[derive(Clone, Copy)]
 pub(crate) struct ShortNumber {
-    pub digits: usize,
     pub value: u64,
     pub last: bool,
-}
-
-// An amount with a space behind it, and where the bytes go on behind that.
-#[derive(Clone, Copy)]
-pub(crate) struct Amount {
-    pub value: u128,
     pub behind: usize,
 }
+
+// The most bytes of a number of at most three digits, and of a short one, with the byte behind it.
+pub(crate) const SMALL_ROOM: usize = 4;
+
+pub(crate) const ROOM: usize = SHORT + 1;
 
 // The short number that stands whole at this place, with the byte behind it.
 #[inline(always)]
 pub(crate) fn number_at(bytes: &[u8], at: usize) -> Option<ShortNumber>
     requires { at + 19 ≤ length bytes.now }
-    ensures { IfSome result (IsNumberAt bytes.now at) }
+    ensures { IfSome result (λ number. IsNumberAt bytes.now at number.value number.last number.behind) }
 {
     let (digits, value) = short_digits(bytes, at);
     if value < least_of(digits) {
         return None;
     }
-    let last = ends_line(bytes[at + digits])?;
-    Some(ShortNumber {
-        digits,
-        value,
-        last,
-    })
+    number_of(bytes, at, digits, value)
 }
 
 // The number of at most three digits that stands whole at this place, with the byte behind it. It is read byte by byte,
 // which is faster where most numbers are as long as the one before.
 #[inline(always)]
-pub(crate) fn small_number_at(bytes: &[u8], at: usize) -> Option<ShortNumber>
+fn small_number_at(bytes: &[u8], at: usize) -> Option<ShortNumber>
     requires { at + 4 ≤ length bytes.now }
-    ensures number { IfSome result (IsNumberAt bytes.now at) }
-    ensures small { IfSome result (λ number. number.digits ≤ 3) }
+    ensures number { IfSome result (λ number. IsNumberAt bytes.now at number.value number.last number.behind) }
+    ensures near { IfSome result (λ number. number.behind ≤ at + 4) }
 {
     let first = digit_of(bytes[at])?;
     let Some(second) = digit_of(bytes[at + 1]) else {
@@ -104,79 +97,44 @@ pub(crate) fn small_number_at(bytes: &[u8], at: usize) -> Option<ShortNumber>
 // The number that so many digits spell, with the byte behind it, if that byte may stand there.
 #[inline(always)]
 fn number_of(bytes: &[u8], at: usize, digits: usize, value: u64) -> Option<ShortNumber>
-    requires few { digits ≤ 18 }
     requires room { at + digits < length bytes.now }
     requires spells { SpellsOn None (take digits (drop at bytes.now)) (Some value) }
-    ensures number { IfSome result (IsNumberAt bytes.now at) }
-    ensures as_long { IfSome result (λ number. number.digits ≡ digits) }
+    ensures number { IfSome result (λ number. IsNumberAt bytes.now at number.value number.last number.behind) }
+    ensures behind { IfSome result (λ number. number.behind ≡ at + digits + 1) }
 {
     let last = ends_line(bytes[at + digits])?;
     Some(ShortNumber {
-        digits,
         value,
         last,
-    })
-}
-
-// The number of at most seven digits that stands whole at this place, with the byte behind it.
-#[inline(always)]
-pub(crate) fn few_digits_at(bytes: &[u8], at: usize) -> Option<ShortNumber>
-    requires { at + 8 ≤ length bytes.now }
-    ensures { IfSome result (IsNumberAt bytes.now at) }
-{
-    let (digits, value) = leading_digits(word_at(bytes, at));
-    if digits > 7 || value < least_of(digits) {
-        return None;
-    }
-    number_of(bytes, at, digits, value)
-}
-
-// The number of at most 24 digits that stands whole at this place, with a space behind it.
-#[inline(always)]
-pub(crate) fn amount_at(bytes: &[u8], at: usize) -> Option<Amount>
-    requires { at + 25 ≤ length bytes.now }
-    ensures spaced { IfSome result (λ amount. IsSpacedAt bytes.now at amount.value amount.behind) }
-    ensures low { IfSome result (λ amount. amount.value < 10 ^ 24) }
-{
-    let (front, first) = leading_digits(word_at(bytes, at));
-    if first < least_of(front) {
-        return None;
-    }
-    let (digits, value) = behind_word(bytes, at, front, first);
-    if bytes[at + digits] != b' ' {
-        return None;
-    }
-    Some(Amount {
-        value,
         behind: at + digits + 1,
     })
 }
 
-// How many of the bytes from this one on are digits, up to 24, and the number that they spell, where those of the first
-// eight are so many and spell this.
+// A short number with a space behind it, and where the bytes go on behind that.
 #[inline(always)]
-fn behind_word(bytes: &[u8], at: usize, front: usize, first: u64) -> (usize, u128)
-    requires room { at + 24 ≤ length bytes.now }
-    requires few { front ≤ 8 }
-    requires front { Spell (take front (drop at bytes.now)) first }
-    ensures few { result.0 ≤ 24 }
-    ensures some { front ≤ result.0 }
-    ensures as_long { front < 8 → result.0 ≡ front }
-    ensures spell { Spell (take result.0 (drop at bytes.now)) result.1 }
+pub(crate) fn number_ahead(bytes: &[u8], at: usize) -> Option<(u64, usize)>
+    requires { at + 19 ≤ length bytes.now }
+    ensures { IfSome result (λ number. IsNumberAt bytes.now at number.0 false number.1) }
 {
-    if front < 8 {
-        return (front, first as u128);
+    let number = number_at(bytes, at)?;
+    if number.last {
+        return None;
     }
-    let (middle, more) = leading_digits(word_at(bytes, at + 8));
-    let long = first * ten_to(middle) + more;
-    if middle < 8 {
-        return (8 + middle, long as u128);
+    Some((number.value, number.behind))
+}
+
+// The same of a number of at most three digits.
+#[inline(always)]
+pub(crate) fn small_ahead(bytes: &[u8], at: usize) -> Option<(u64, usize)>
+    requires { at + 4 ≤ length bytes.now }
+    ensures number { IfSome result (λ number. IsNumberAt bytes.now at number.0 false number.1) }
+    ensures near { IfSome result (λ number. number.1 ≤ at + 4) }
+{
+    let number = small_number_at(bytes, at)?;
+    if number.last {
+        return None;
     }
-    let (back, last) = leading_digits(word_at(bytes, at + 16));
-    (
-        16 + back,
-        long as u128 * ten_to(back) as u128 + last as u128,
-    )
+    Some((number.value, number.behind))
 }
 
 #[inline(always)]
@@ -191,7 +149,7 @@ fn least_of(digits: usize) -> u64
 // Whether a number's line ends with the byte behind it, if that byte may stand there.
 #[inline(always)]
 fn ends_line(byte: u8) -> Option<bool>
-    ensures { IfSome result (λ last. (last ≡ true → byte ≡ 10) × (last ≡ false → byte ≡ 32)) }
+    ensures { IfSome result (λ last. byte ≡ byte_behind last) }
 {
     match byte {
         b'\n' => Some(true),

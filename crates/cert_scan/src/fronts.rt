@@ -1,15 +1,9 @@
 //! The front of the line of a dual or of a proof, up to what it lists, where it stands whole in the bytes at hand.
 ghost use Rattle.std.specs.Prelude.{◌≡◌, ◌+◌, ◌<◌, ◌≤◌, length, codes, take, Some, IfSome, true};
 ghost use Rattle.cert_scan.specs.Runs.{GoesOn};
-ghost use Rattle.cert_scan.specs.Fronts.{
-  IsSpacedAt,
-  AreNodesAt,
-  IsDualAhead,
-  AreDualsAhead,
-  IsProofAhead,
-};
+ghost use Rattle.cert_scan.specs.Fronts.{AreNodesAt, IsDualAhead, AreDualsAhead, IsProofAhead};
 
-use crate::digits::{amount_at, small_number_at};
+use crate::digits::{ROOM, SMALL_ROOM, number_ahead, small_ahead};
 use crate::marks::{MOST_SCALE, MOST_TURNS};
 use crate::stages::Commodity;
 
@@ -29,8 +23,8 @@ pub(crate) struct ProofFront {
     pub scale: u32,
 }
 
-// A word of five letters, three small numbers, and an amount, with a byte behind each.
-const LONGEST: usize = 6 + 3 * 4 + 25;
+// A word of five letters, three small numbers, and a short one, with a byte behind each.
+const LONGEST: usize = 6 + 3 * SMALL_ROOM + ROOM;
 
 // The front of the line of a dual of this commodity alone.
 #[inline(always)]
@@ -41,11 +35,11 @@ pub(crate) fn dual_ahead(commodity: Commodity, bytes: &[u8]) -> Option<DualFront
         return None;
     }
     let at = behind_nodes(commodity, bytes, 5)?;
-    let price = amount_at(bytes, at)?;
+    let (price, count) = number_ahead(bytes, at)?;
     Some(DualFront {
-        count: price.behind,
+        count,
         length: 1,
-        price: price.value,
+        price: price as u128,
     })
 }
 
@@ -63,11 +57,11 @@ pub(crate) fn duals_ahead(n: u32, commodity: Commodity, bytes: &[u8]) -> Option<
     if length < 2 || length > most as u64 {
         return None;
     }
-    let price = amount_at(bytes, behind)?;
+    let (price, count) = number_ahead(bytes, behind)?;
     Some(DualFront {
-        count: price.behind,
+        count,
         length: length as u32,
-        price: price.value,
+        price: price as u128,
     })
 }
 
@@ -83,14 +77,14 @@ pub(crate) fn proof_ahead(bytes: &[u8]) -> Option<ProofFront>
     if turns as u128 > MOST_TURNS {
         return None;
     }
-    let scale = amount_at(bytes, at)?;
-    if scale.value < 1 || scale.value > MOST_SCALE {
+    let (scale, count) = number_ahead(bytes, at)?;
+    if scale < 1 || scale as u128 > MOST_SCALE {
         return None;
     }
     Some(ProofFront {
-        count: scale.behind,
+        count,
         turns: turns as u32,
-        scale: scale.value as u32,
+        scale: scale as u32,
     })
 }
 
@@ -126,18 +120,4 @@ fn behind_nodes(commodity: Commodity, bytes: &[u8], at: usize) -> Option<usize>
         return None;
     }
     Some(behind)
-}
-
-// A number of at most three digits with a space behind it, and where the bytes go on behind that.
-#[inline(always)]
-fn small_ahead(bytes: &[u8], at: usize) -> Option<(u64, usize)>
-    requires { at + 4 ≤ length bytes.now }
-    ensures spaced { IfSome result (λ number. IsSpacedAt bytes.now at number.0 number.1) }
-    ensures near { IfSome result (λ number. number.1 ≤ at + 4) }
-{
-    let number = small_number_at(bytes, at)?;
-    if number.last {
-        return None;
-    }
-    Some((number.value, at + number.digits + 1))
 }

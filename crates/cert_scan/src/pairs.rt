@@ -2,20 +2,18 @@
 ghost use Rattle.std.specs.Prelude.{◌≡◌, ◌<◌, ◌≤◌, Some, IfSome};
 ghost use Rattle.cert_scan.specs.Ahead.{IsPairAhead};
 
-use crate::digits::{SHORT, number_at};
+use crate::digits::{ROOM, SMALL_ROOM, number_at, small_ahead};
 
-// A node's number and a value, and how many digits each has. `last` says that the line ends behind them.
+// A node's number and a value. `last` says that the line ends behind them. The bytes go on `behind` them.
 #[derive(Clone, Copy)]
 pub(crate) struct Pair {
-    pub front: usize,
-    pub back: usize,
     pub number: u32,
     pub value: u64,
     pub last: bool,
+    pub behind: usize,
 }
 
-// Two numbers of as many digits as are short, with a byte behind each.
-const LONGEST: usize = 2 * SHORT + 2;
+const LONGEST: usize = SMALL_ROOM + ROOM;
 
 // The number of one of `n` nodes above the one before it, and a value, with the byte that ends it.
 #[inline(always)]
@@ -25,21 +23,17 @@ pub(crate) fn pair_ahead(n: u32, before: u32, bytes: &[u8]) -> Option<Pair>
     if bytes.len() < LONGEST {
         return None;
     }
-    let node = number_at(bytes, 0)?;
-    if node.last {
-        return None;
-    }
-    let number = node_above(n, before, node.value)?;
-    let amount = number_at(bytes, node.digits + 1)?;
+    let (node, at) = small_ahead(bytes, 0)?;
+    let number = node_above(n, before, node)?;
+    let amount = number_at(bytes, at)?;
     if amount.value < 1 {
         return None;
     }
     Some(Pair {
-        front: node.digits,
-        back: amount.digits,
         number,
         value: amount.value,
         last: amount.last,
+        behind: amount.behind,
     })
 }
 

@@ -3,28 +3,24 @@ ghost use Rattle.std.specs.Prelude.{◌≡◌, ◌≤◌, Some, IfSome, true};
 ghost use Rattle.cert_scan.specs.Ahead.{IsWayAhead};
 ghost use Rattle.cert_scan.specs.Moves.{is_later_way};
 
-use crate::digits::{SHORT, few_digits_at, small_number_at};
+use crate::digits::{ROOM, SMALL_ROOM, number_at, small_ahead};
 use crate::marks::{MOST_TAKEN, is_later};
 use crate::stages::WaysAt;
 
-// The nodes of a way, counted from 1, and how often it is taken, and how many digits each of the three has. `last` says
-// that the line ends behind them.
+// The nodes of a way, counted from 1, and how often it is taken. `last` says that the line ends behind them. The bytes go
+// on `behind` them.
 #[derive(Clone, Copy)]
 pub(crate) struct Way {
-    pub front: usize,
-    pub middle: usize,
-    pub back: usize,
     pub from: u32,
     pub to: u32,
     pub taken: u64,
     pub last: bool,
+    pub behind: usize,
 }
 
-// Two numbers of as many digits as are short, with a byte behind each, and eight bytes more.
-const LONGEST: usize = 2 * SHORT + 10;
+const LONGEST: usize = 2 * SMALL_ROOM + ROOM;
 
-// A way between two of `n` nodes, behind the one before it, with the byte that ends it. Only short numbers are read: nodes
-// of at most three digits, and the other of at most seven.
+// A way between two of `n` nodes, behind the one before it, with the byte that ends it.
 #[inline(always)]
 pub(crate) fn way_ahead(n: u32, at: WaysAt, bytes: &[u8]) -> Option<Way>
     ensures { IfSome result (IsWayAhead n at bytes.now) }
@@ -32,27 +28,19 @@ pub(crate) fn way_ahead(n: u32, at: WaysAt, bytes: &[u8]) -> Option<Way>
     if bytes.len() < LONGEST {
         return None;
     }
-    let first = small_number_at(bytes, 0)?;
-    if first.last {
-        return None;
-    }
-    let second = small_number_at(bytes, first.digits + 1)?;
-    if second.last {
-        return None;
-    }
-    let (from, to) = nodes_behind(n, at, first.value, second.value)?;
-    let third = few_digits_at(bytes, first.digits + 1 + second.digits + 1)?;
-    if third.value < 1 || third.value as u128 > MOST_TAKEN {
+    let (first, between) = small_ahead(bytes, 0)?;
+    let (second, next) = small_ahead(bytes, between)?;
+    let (from, to) = nodes_behind(n, at, first, second)?;
+    let count = number_at(bytes, next)?;
+    if count.value < 1 || count.value as u128 > MOST_TAKEN {
         return None;
     }
     Some(Way {
-        front: first.digits,
-        middle: second.digits,
-        back: third.digits,
         from,
         to,
-        taken: third.value,
-        last: third.last,
+        taken: count.value,
+        last: count.last,
+        behind: count.behind,
     })
 }
 

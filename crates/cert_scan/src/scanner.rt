@@ -115,7 +115,7 @@ impl Scan {
                 return self.end_dual(pair, bytes);
             }
             let item = self.list_pair(pair);
-            return (pair.front + 1 + pair.back + 1, Some(item));
+            return (pair.behind, Some(item));
         }
         let Some(way) = self.way_ahead(bytes) else {
             return self.begin_line(bytes);
@@ -124,7 +124,7 @@ impl Scan {
             return self.end_proof(bytes);
         }
         let item = self.list_way(way);
-        (way.front + 1 + way.middle + 1 + way.back + 1, Some(item))
+        (way.behind, Some(item))
     }
 
     // The node and the value that a dual lists next, where they stand there whole and as wanted.
@@ -182,7 +182,7 @@ impl Scan {
             // The dual repeats the one before it, so that nothing comes any more.
             return (bytes.len(), None);
         }
-        (pair.front + 1 + pair.back + 1, item)
+        (pair.behind, item)
     }
 
     // The way that a proof lists next, where it stands there whole and as wanted.
@@ -237,7 +237,7 @@ impl Scan {
         };
         let next = take_taken(self.shape, at, way.taken as u128, way.last);
         let item = self.go(next);
-        (way.front + 1 + way.middle + 1 + way.back + 1, item)
+        (way.behind, item)
     }
 
     #[inline(never)]
@@ -303,7 +303,7 @@ impl Scan {
         let number = number_at(bytes, 0)?;
         let next = take(self.shape, place, number.value as u128, number.last);
         let item = self.go(next);
-        Some((number.digits + 1, item))
+        Some((number.behind, item))
     }
 
     // Takes bytes that give nothing, and one more where one is left.

@@ -16,3 +16,4 @@ pub mod Whole
 pub mod Ends
 pub mod Refusing
 pub mod CutLines
+pub mod Shown

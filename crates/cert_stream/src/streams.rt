@@ -2,7 +2,7 @@
 
 ghost use Rattle.std.specs.Prelude.{◌≡◌, ℕ, ◌≤◌, ◌<◌, ◌++◌, List, [], length, take, IfOk, IsOk, OnErr};
 ghost use Rattle.cert_spec.specs.Verdicts.{Why, certificate_limit};
-ghost use Rattle.cert_checker.specs.Shows.{verdict_of, ProvesMarks};
+ghost use Rattle.cert_checker.specs.Shows.{verdict_of, Proves, ProvesMarks};
 ghost use Rattle.cert_scan.specs.declared.items.Item.{Item as ItemOf};
 ghost use Rattle.cert_spec.specs.Stated.{Stated, IsStatedInRange};
 ghost use Rattle.cert_scan.specs.Parts.{items_of};
@@ -110,6 +110,8 @@ impl<'a> Stream<'a> {
     pub fn finish(&self) -> Ending
         requires { (bytes : List ℕ) × HasFed bytes self.now }
         ensures why { (bytes : List ℕ) → HasFed bytes self.now → Why self.now.checks.instance.now bytes (verdict_of result) }
+        ensures proves { (bytes : List ℕ) → HasFed bytes self.now
+            → Proves self.now.checks.instance.now bytes (verdict_of result) }
         ensures marked { (bytes : List ℕ) → HasFed bytes self.now
             → ProvesMarks self.now.checks.instance.now bytes (verdict_of result) }
     {

@@ -15,6 +15,7 @@ use Rattle.hub_spec.proofs.Sets.{All-from_contains}
 use Rattle.search_spec.specs.States.{denominator, whole_on}
 use Rattle.search_spec.specs.Choices.{Advising, IsSoundAdvising, rule_parts, with_nodes, all_open, blocked_end, all_decided, only_set}
 use Rattle.search_spec.specs.Laws.{NumberReaches, AreSound}
+use Rattle.search_spec.specs.Costs.{least_of}
 use Rattle.search_spec.proofs.OpenNodes.{apart_ascending, ascend_take, in_take, in_with_nodes, with_nodes_ascends, length_with_nodes}
 use Rattle.search_spec.proofs.RuleParts.{some_serves, any_length, rule_sound}
 use Rattle.closing_search.specs.Ends.{IsBarren, IsOpen, IsLastSet}
@@ -195,9 +196,8 @@ all_candidates p ok any = record {
 
 pub all_first : (p : Problem) (hubs : List ℕ) → p.wanted ≡ None → IsHubSet p p.candidates → hubs ≡ p.candidates → AreFirstHubs p hubs
 all_first p hubs any serves same = record {
-  is_set = subst (IsHubSet p) (sym same) serves;
-  wanted = rw any tt;
-  all = λ any. same;
+  set = record { is_set = subst (IsHubSet p) (sym same) serves; wanted = rw any tt };
+  are = same ∙ sym (ap (λ (o : Option ℕ). least_of o p.candidates) any);
 }
 
 pub some_first : (p : Problem) (n : ℕ) (hubs : List ℕ) → IsProblem p → p.wanted ≡ Some n → hubs ≡ take n p.candidates → AreFirstHubs p hubs
@@ -206,14 +206,16 @@ some_first p n hubs ok wanted same =
     let many : length (take n p.candidates) ≡ n = length-take-le n p.candidates limit.1 in
     let some : 1 ≤ length (take n p.candidates) = omega (arith, many, limit.0) in
     subst (AreFirstHubs p) (sym same) (record {
-      is_set = record {
-        set = record {
-          some_hub = some;
-          ascend = ascend_take n p.candidates ok.candidates_ascend;
-          are_candidates = All-from_contains (Contains p.candidates) (take n p.candidates) (λ k c. in_take n p.candidates k c);
+      set = record {
+        is_set = record {
+          set = record {
+            some_hub = some;
+            ascend = ascend_take n p.candidates ok.candidates_ascend;
+            are_candidates = All-from_contains (Contains p.candidates) (take n p.candidates) (λ k c. in_take n p.candidates k c);
+          };
+          lacks_none = some_serves p (take n p.candidates) (any_length p n ok wanted) some;
         };
-        lacks_none = some_serves p (take n p.candidates) (any_length p n ok wanted) some;
+        wanted = rw wanted many;
       };
-      wanted = rw wanted many;
-      all = λ any. absurd (none-some n (sym any ∙ wanted));
+      are = sym (ap (λ (o : Option ℕ). least_of o p.candidates) wanted);
     })

@@ -13,8 +13,8 @@ use Rattle.leaf_bound.specs.Weighing.{most_bound, IsWithin}
 use Rattle.search_spec.specs.States.{denominator, whole_on, lesser, rounded_up}
 use Rattle.search_spec.proofs.Bounds.{rounded_closes}
 use Rattle.search_spec.proofs.Keeping.{closes_less}
-use Rattle.tree_walks.specs.Walks.{IsSoundLine}
-use Rattle.kept_cuts.specs.Kept.{Kept, kept_cut, kept_cuts, IsRemade}
+use Rattle.search_spec.specs.Walks.{IsSoundLine}
+use Rattle.cut_pool.specs.Kept.{Kept, kept_cut, kept_cuts, IsRemade}
 use Rattle.closing_search.specs.declared.leaves.Choice.{Choice}
 use Rattle.closing_search.specs.SingleCuts.{cut_bound, weights_on, IsChoice}
 use Rattle.closing_search.proofs.KeptSums.{kept_are_whole}
@@ -143,3 +143,11 @@ choice_closes p cuts b choice cost r left is up =
 
 pub number_in : (p : Problem) (cuts : List Cut) (b : Branching) (choice : Choice) → IsChoice p cuts b choice → IsNumber cuts choice.number
 number_in p cuts b choice is = record { least = is.least; most = is.most }
+
+-- a leaf proves no more than it says: its bound rounded up
+pub leaf_says : (p : Problem) (cuts : List Cut) (target : ℕ) (b : Branching) (number : Option ℕ) (line : TreeLine) (r : ℕ)
+    → line ≡ leaf_of denominator (weights_on number) → r ≡ rounded_up (leaf_bound p cuts denominator (weights_on number) b)
+    → IsSoundLine p cuts target b line → target ≤ r
+leaf_says p cuts target b number line r same up sound =
+    let is : IsSoundLine p cuts target b (leaf_of denominator (weights_on number)) = subst (IsSoundLine p cuts target b) same sound in
+    subst (λ (n : ℕ). target ≤ n) (sym up) (said_least (leaf_bound p cuts denominator (weights_on number) b) target is.2)

@@ -8,9 +8,9 @@ use Rattle.hub_spec.specs.Problem.{Problem, IsProblem}
 use Rattle.hub_spec.specs.Cuts.{Cut, cut_by, total, load, IsCut}
 use Rattle.hub_spec.specs.Trees.{cut_at}
 use Rattle.hub_spec.proofs.Mixes.{AreWhole}
-use Rattle.kept_cuts.specs.Kept.{Kept, by_values, by_set, cored, given, kept_cut, kept_cuts, kept_part, IsRemade, IsKeptFor, KeptList, node_loads, AreKeptFor}
-use Rattle.kept_cuts.proofs.KeptCutLaws.{kept_is_cut, kept_part_is}
-use Rattle.kept_cuts.proofs.NodeLoads.{loads_are}
+use Rattle.cut_pool.specs.Kept.{Kept, by_values, by_set, cored, given, kept_cut, kept_cuts, kept_part, IsRemade, IsKeptFor, KeptList, node_loads, AreKeptFor}
+use Rattle.cut_pool.proofs.KeptCutLaws.{kept_is_cut, kept_part_is}
+use Rattle.cut_pool.proofs.NodeLoads.{loads_are}
 use Rattle.closing_search.specs.SingleCuts.{AreLoads, AreLentOf}
 
 pub map-slice_range : {X Y : Type 0} (f : X → Y) (xs : List X) (a b : ℕ) → map f (slice_range xs a b) ≡ slice_range (map f xs) a b

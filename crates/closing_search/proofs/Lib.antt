@@ -2,6 +2,7 @@ pub mod Gaps
 pub mod BranchEnds
 pub mod SingleBounds
 pub mod KeptSums
+pub mod BestBounds
 pub mod Steps
 pub mod Choices
 pub mod SetLeaves

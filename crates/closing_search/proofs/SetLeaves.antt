@@ -10,7 +10,7 @@ use Rattle.search_spec.proofs.SetCosts.{set_cut_serves, set_cost_by_sums}
 use Rattle.search_spec.proofs.Separated.{serves_reaches}
 use Rattle.value_cuts.specs.Values.{ValueRows, value_cut}
 use Rattle.value_cuts.proofs.ValueSums.{cut_is}
-use Rattle.kept_cuts.specs.Kept.{by_values, by_set}
+use Rattle.cut_pool.specs.Kept.{by_values, by_set}
 use Rattle.closing_search.specs.declared.leaves.OrderedSet.{OrderedSet}
 use Rattle.closing_search.specs.Ends.{IsLastSet}
 use Rattle.closing_search.specs.SingleCuts.{AreLoads, ClosesBy, IsOrderedSet}

@@ -1,50 +1,32 @@
 -- The bound of a branch by one cut alone, and by none.
-use Rattle.std.proofs.Common.{◌≡◌, ℕ, ◌-◌, ◌*◌, ◌<◌, ◌≤◌, pos, ◌≤ℤ◌, List, [], ◌∷◌, length, get_or, sum_by, All, Contains, Option, Some, None, refl, sym, ap, ap₂, subst, ◌∙◌, true≢false, arith}
+use Rattle.std.proofs.Common.{◌≡◌, ℕ, ◌-◌, ◌*◌, ◌≤◌, pos, ◌≤ℤ◌, List, [], ◌∷◌, length, get_or, All, Contains, Option, Some, None, refl, sym, ap, ap₂, subst, ◌∙◌, arith}
 use Rattle.std.specs.List.{AllZip}
 use Rattle.std.specs.Int.{int_min}
 use Rattle.std.proofs.lemmas.Int.{ints, clamps}
-use Rattle.std.proofs.lemmas.List.Elements.{All-nil, All-cons, All-from_get_or, All-contains}
-use Rattle.std.proofs.lemmas.List.Sums.{sum_by-cons}
-use Rattle.hub_spec.specs.Limits.{most_part, most_cost, most_fixed_cost}
+use Rattle.std.proofs.lemmas.List.Elements.{All-nil, All-cons, All-contains}
+use Rattle.hub_spec.specs.Limits.{most_part, most_cost}
 use Rattle.hub_spec.specs.Sums.{sum_ints}
-use Rattle.hub_spec.specs.Problem.{Problem, IsProblem, fixed_cost, commodities}
-use Rattle.hub_spec.specs.Cuts.{Prices, value_at, IsDual, Cut, load, IsCut}
+use Rattle.hub_spec.specs.Problem.{Problem, IsProblem, fixed_cost}
+use Rattle.hub_spec.specs.Cuts.{Cut, load, IsCut}
 use Rattle.hub_spec.specs.Trees.{Branching, IsBranch, mixed_total, mixed_gain, bound_by, leaf_bound}
 use Rattle.hub_spec.proofs.LeastSums.{least_not_below}
-use Rattle.hub_spec.proofs.SumLemmas.{by_test}
-use Rattle.hub_spec.proofs.Sets.{is_in, is_in-yes, Contains-from_is_in}
-use Rattle.hub_spec.proofs.SetCuts.{unlisted_value}
+use Rattle.hub_spec.proofs.Mixes.{candidate_is_node}
 use Rattle.leaf_bound.specs.declared.weightings.Weighting as lent
 use Rattle.leaf_bound.specs.Bounds.{Weighting}
-use Rattle.leaf_bound.specs.Numbers.{IsSumOf, AreWeightingNumbers, IsBranchBelow, weighting_of}
+use Rattle.leaf_bound.specs.Numbers.{AreWeightingNumbers, IsBranchBelow, IsBranchWithin, weighting_of}
 use Rattle.leaf_bound.specs.Theorems.{weight_pairs, AreLoadsOf, IsWeightingOf}
 use Rattle.leaf_bound.proofs.LeafWeights.{leaf_has_bound}
 use Rattle.p_hub.proofs.CountedBounds.{leaf_counted}
 use Rattle.search_spec.specs.States.{denominator}
-use Rattle.search_core.proofs.Weightings.{below_size}
+use Rattle.search_core.proofs.Weightings.{below_size, candidate_within, branch_within}
 use Rattle.closing_search.specs.SingleCuts.{AreLoads, IsOnCut, IsOnNone, bound_for, cut_bound}
 
--- ---- the loads of a cut are within their limit, at each node
+-- ---- the sums of a cut are within their limits
 
-no_loads : (p : Problem) (k part : ℕ) (cs : List (ℕ × ℕ)) (duals : List Prices) → (Contains p.candidates k → ⊥)
-    → AllZip (IsDual p part) cs duals → sum_by (λ (d : Prices). value_at d.u k) duals ≡ 0
-no_loads p k part [] [] none are = refl
-no_loads p k part [] (d ∷ ds) none are = absurd are
-no_loads p k part (c ∷ cs) [] none are = absurd are
-no_loads p k part (c ∷ cs) (d ∷ ds) none are =
-    let here = unlisted_value p.candidates d.u k are.0.are_candidates none in
-    rw (sum_by-cons (λ (x : Prices). value_at x.u k) d ds) (omega (arith, here, no_loads p k part cs ds none are.1))
-
-load_within : (p : Problem) (cut : Cut) (k : ℕ) → IsCut p cut → cut.part ≡ 1 → load cut k ≤ most_cost
-load_within p cut k is whole =
-    let times = ap (λ (e : ℕ). e * most_cost) whole in
-    let limit = is.sums.load_limit in
-    by_test (is_in p.candidates k)
-    (λ e. let here = Contains-from_is_in p.candidates k e in
-    let low = All-contains (λ m. load cut m ≤ cut.part * most_cost) p.candidates k limit here in
-    omega (arith, low, times))
-    (λ e. let outside : Contains p.candidates k → ⊥ = λ c. absurd (true≢false (sym (is_in-yes p.candidates k c) ∙ e)) in
-    let none = no_loads p k cut.part (commodities p.size) cut.duals outside is.duals in omega (arith, none))
+load_within : (p : Problem) (cut : Cut) (k : ℕ) → IsCut p cut → cut.part ≡ 1 → Contains p.candidates k → load cut k ≤ most_cost
+load_within p cut k is whole candidate =
+    let limit = All-contains (λ m. load cut m ≤ cut.part * most_cost) p.candidates k is.sums.load_limit candidate in
+    omega (arith, limit, ap (λ (e : ℕ). e * most_cost) whole)
 
 pub total_within : (p : Problem) (cut : Cut) (sum : ℕ) (loads : List ℕ) → AreLoads p cut sum loads → sum ≤ most_cost
 total_within p cut sum loads are =
@@ -52,17 +34,6 @@ total_within p cut sum loads are =
     omega (arith, are.is_total, are.is_cut.sums.total_limit, times)
 
 -- ---- numbers
-
--- the limit of a fixed cost
-abbrev IsFixedCost : ℕ → Type 0
-IsFixedCost cost = cost ≤ most_fixed_cost
-
-row_sums : (p : Problem) (cut : Cut) (sum : ℕ) (loads : List ℕ) → AreLoads p cut sum loads
-    → All (IsSumOf 1) loads
-row_sums p cut sum loads are =
-    All-from_get_or (IsSumOf 1) loads 0
-    (λ k low. let node : k < p.size = omega (arith, low, are.long) in
-    omega (arith, are.are_loads k node, load_within p cut k are.is_cut are.whole))
 
 -- the limits of a part
 abbrev IsPart : ℕ → Type 0
@@ -79,9 +50,9 @@ cut_numbers p cut m ok on =
       are_parts = subst (All IsPart) (sym ns.parts_are)
           (All-cons IsPart 1 [] (omega arith, omega arith) (All-nil IsPart));
       are_totals = rw (ns.parts_are, ns.totals_are) (omega (arith, total_within p cut ns.sum ns.loads ns.are), tt);
-      are_loads = rw (ns.parts_are, ns.rows_are)
-          ((ns.are.long ∙ sym long, row_sums p cut ns.sum ns.loads ns.are), tt);
-      are_fixed_costs = subst (All IsFixedCost) (sym on.fixed_are) ok.cost_limit;
+      as_many_rows = omega (arith, ap length ns.rows_are, ap length ns.parts_are);
+      are_wide = rw ns.rows_are (All-cons (λ (row : List ℕ). length row ≡ n) ns.loads [] (ns.are.long ∙ sym long)
+          (All-nil (λ (row : List ℕ). length row ≡ n)));
       are_multiples = rw (on.weights_are, ns.parts_are) (refl, tt);
       weights_limit = rw (on.weights_are, on.denom_is) (omega arith);
       denom_least = omega (arith, on.denom_is);
@@ -94,13 +65,26 @@ none_numbers p m ok on = record {
   few_weights = omega (arith, ap length on.weights_are);
   are_parts = subst (All IsPart) (sym on.parts_are) (All-nil IsPart);
   are_totals = rw (on.parts_are, on.totals_are) tt;
-  are_loads = rw (on.parts_are, on.rows_are) tt;
-  are_fixed_costs = subst (All IsFixedCost) (sym on.fixed_are) ok.cost_limit;
+  as_many_rows = omega (arith, ap length on.rows_are, ap length on.parts_are);
+  are_wide = rw on.rows_are (All-nil (λ (row : List ℕ). length row ≡ length m.fixed.now));
   are_multiples = rw on.weights_are tt;
   weights_limit = rw on.weights_are (omega arith);
   denom_least = omega (arith, on.denom_is);
   denom_most = omega (arith, on.denom_is);
 }
+
+pub cut_within : (p : Problem) (cut : Cut) (m : lent.Weighting) (b : Branching) → IsProblem p → IsBranch p b → IsOnCut p cut m
+    → IsBranchWithin m b
+cut_within p cut m b ok is on =
+    let ns = on.lent_of in
+    branch_within p m b
+    (λ k candidate. candidate_within p m k ok on.fixed_are candidate
+    (rw (ns.parts_are, ns.rows_are)
+    (omega (arith, ns.are.are_loads k (candidate_is_node p k ok candidate), load_within p cut k ns.are.is_cut ns.are.whole candidate), tt))) is
+
+pub none_within : (p : Problem) (m : lent.Weighting) (b : Branching) → IsProblem p → IsBranch p b → IsOnNone p m → IsBranchWithin m b
+none_within p m b ok is on =
+    branch_within p m b (λ k candidate. candidate_within p m k ok on.fixed_are candidate (rw (on.parts_are, on.rows_are) tt)) is
 
 -- ---- bounds
 

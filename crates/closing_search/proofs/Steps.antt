@@ -12,19 +12,22 @@ use Rattle.plan_model.specs.declared.tree_lines.TreeLine as model
 use Rattle.plan_model.specs.Lines.{tree_line_of}
 use Rattle.search_spec.specs.States.{lesser}
 use Rattle.search_spec.specs.Findings.{AreWithin, IsSpent, IsEnough}
+use Rattle.search_spec.specs.Costs.{first_hubs}
+use Rattle.search_spec.proofs.FallingCosts.{least_to}
 use Rattle.search_spec.proofs.Invariants.{lesser_less}
 use Rattle.search_spec.proofs.Leaves.{double}
 use Rattle.search_spec.proofs.Parting.{length-without}
-use Rattle.tree_walks.specs.Walks.{IsSoundLine, filled, Walks}
-use Rattle.tree_walks.proofs.Walking.{goes_on, stays}
-use Rattle.kept_cuts.specs.Kept.{Kept, kept_cut, IsRemade, IsKeptFor, AreKeptFor}
-use Rattle.kept_cuts.specs.Findings.{lines_of, IsUnlimited}
+use Rattle.search_spec.specs.Walks.{IsSoundLine, filled, Walks}
+use Rattle.search_spec.proofs.Walking.{goes_on, stays}
+use Rattle.cut_pool.specs.Kept.{Kept, KeptList, kept_cut, kept_cuts, IsRemade, IsKeptFor, AreKeptFor}
+use Rattle.cut_pool.specs.Findings.{lines_of, IsUnlimited}
 use Rattle.closing_search.specs.Ends.{IsEndLine}
 use Rattle.closing_search.specs.declared.task.Task.{Task}
 use Rattle.closing_search.specs.declared.progress.Progress.{Progress}
 use Rattle.closing_search.specs.Gaps.{IsWithinGap}
 use Rattle.closing_search.specs.SingleCuts.{AreLoads}
-use Rattle.closing_search.specs.Progressing.{cuts_of, target_of, WalksTo, IsGoing, IsAt, MayBeWhole, IsDone, IsHalved, IsAdvised, IsOver}
+use Rattle.closing_search.specs.Progressing.{cuts_of, target_of, WalksTo, KeepsBest, IsGoing, IsAt, MayBeWhole, IsDone, IsLastLine, IsHalved, IsAdvised, IsOver}
+use Rattle.closing_search.proofs.BestBounds.{last_sound, walk_by, says_both, keeps_twice, keeps_lines, keeps_line, keeps_cut}
 use Rattle.closing_search.proofs.Gaps.{fallen_within}
 use Rattle.closing_search.proofs.KeptSums.{kept_more}
 
@@ -55,6 +58,25 @@ line_walks p before after line count b first pending has sound walks =
     rw (has.cuts, has.cost, has.left, has.lines, map_push tree_line_of before.lines.items line)
     (goes_on p (cuts_of p before) (target_of before) first (lines_of before.lines.items) b pending (tree_line_of line) walks sound)
 
+line_written : (before after : Progress) (line : model.TreeLine) (count : ℕ) → HasLine before after line count
+    → lines_of after.lines.items ≡ lines_of before.lines.items ++ tree_line_of line ∷ []
+line_written before after line count has = ap lines_of has.lines ∙ map_push tree_line_of before.lines.items line
+
+line_best : (p : Problem) (before after : Progress) (line : model.TreeLine) (count : ℕ) (first : List Branching) → HasLine before after line count
+    → KeepsBest p first before after
+line_best p before after line count first has =
+    keeps_line p first before after (tree_line_of line) (ap (λ (cs : KeptList). kept_cuts p cs.cuts) has.cuts)
+    (line_written before after line count has) has.left
+
+pub line_last : (t : Task) (b : Branching) (before after : Progress) (line : model.TreeLine) (count : ℕ) → HasLine before after line count
+    → IsLastLine t b (tree_line_of line) before after
+line_last t b before after line count has = λ first pending target to proves.
+    (let p = t.instance.now in
+    last_sound p (cuts_of p before) (target_of before) target first (lines_of before.lines.items) b pending (tree_line_of line) proves.0 to
+    (walk_by p target first proves.0 (cuts_of p after) (cuts_of p before) (lines_of after.lines.items)
+    (lines_of before.lines.items ++ tree_line_of line ∷ []) (ap (λ (cs : KeptList). kept_cuts p cs.cuts) has.cuts)
+    (line_written before after line count has) proves.1))
+
 spent_on : (n : Option ℕ) (made more : ℕ) → made ≤ more → IsSpent n made → IsSpent n more
 spent_on None made more less spent = spent
 spent_on (Some most) made more less spent = omega (arith, less, spent)
@@ -77,6 +99,7 @@ line_going t before after line count going has few in_range first more less with
   wanted = rw has.hubs going.wanted;
   cost = rw (has.hubs, has.cost) going.cost;
   at_most = rw has.cost going.at_most;
+  given = rw has.cost going.given;
   cost_limit = rw has.cost going.cost_limit;
   made = omega (arith, has.made, less, going.made, line_more before after line count has);
   allowed = subst (AreWithin t.nodes) (sym has.made) within;
@@ -98,6 +121,7 @@ line_done t b before after line going end sound in_range first few has =
           going.allowed;
       walks = λ first pending walks. subst (WalksTo p after first) (end b pending)
           (line_walks p before after line before.made b first pending has sound walks);
+      best = λ first pending walks. line_best p before after line before.made first has;
       lines = omega (arith, line_more before after line before.made has, has.made);
       most = omega (arith, has.made, double (length b.free), pow_pos (length b.free));
       enough = λ room none. has.stopped ∙ none;
@@ -117,6 +141,7 @@ line_halved t b k before after line going is sound node within few has =
       walks = λ first pending walks. subst (λ (l : TreeLine). WalksTo p after first (filled b l pending)) is
           (line_walks p before after line (before.made + 2) b first pending has
           (subst (IsSoundLine p (cuts_of p before) (target_of before) b) (sym is) sound) walks);
+      best = λ first pending walks. line_best p before after line (before.made + 2) first has;
       lines = line_more before after line (before.made + 2) has;
       made = has.made;
       stopped = has.stopped;
@@ -125,12 +150,21 @@ line_halved t b k before after line going is sound node within few has =
 -- ---- no line more
 
 pub at_same : (t : Task) (s : Progress) → IsGoing t s → IsAt t s s
-at_same t s going = record { going = going; walks = λ first last walks. walks; lines = refl; made = refl; stopped = refl }
+at_same t s going = record {
+  going = going;
+  walks = λ first last walks. walks;
+  best = λ first last walks. λ target proves. (proves, λ says. says);
+  lines = refl;
+  made = refl;
+  stopped = refl;
+}
 
 pub at_twice : (t : Task) (before middle after : Progress) → IsAt t before middle → IsAt t middle after → IsAt t before after
 at_twice t before middle after one two = record {
   going = two.going;
   walks = λ first last walks. two.walks first last (one.walks first last walks);
+  best = λ first last walks.
+      keeps_twice t.instance.now first before middle after (one.best first last walks) (two.best first last (one.walks first last walks));
   lines = two.lines ∙ one.lines;
   made = two.made ∙ one.made;
   stopped = two.stopped ∙ one.stopped;
@@ -140,6 +174,9 @@ pub at_done : (t : Task) (b : Branching) (before middle after : Progress) → Is
 at_done t b before middle after at done = record {
   going = done.going;
   walks = λ first pending walks. done.walks first pending (at.walks first (b ∷ pending) walks);
+  best = λ first pending walks.
+      keeps_twice t.instance.now first before middle after (at.best first (b ∷ pending) walks)
+      (done.best first pending (at.walks first (b ∷ pending) walks));
   lines = omega (arith, at.lines, at.made, done.lines);
   most = omega (arith, at.made, done.most);
   enough = λ room none. done.enough (subst (λ (made : ℕ). IsEnough (made + 2 ^ (length b.free + 1) - 1) t.nodes) (sym at.made) room)
@@ -184,7 +221,8 @@ offer_at t before after going has set wanted is_cost =
         hubs = set;
         wanted = wanted;
         cost = is_cost;
-        at_most = λ any most is_most. omega (arith, has.cost, going.at_most any most is_most);
+        at_most = least_to p (first_hubs p) after.cost before.cost has.cost going.at_most;
+        given = least_to p t.first.now after.cost before.cost has.cost going.given;
         cost_limit = omega (arith, has.cost, going.cost_limit);
         made = rw (has.lines, has.made) going.made;
         allowed = rw has.made going.allowed;
@@ -194,6 +232,8 @@ offer_at t before after going has set wanted is_cost =
             (fallen_within t.gap before.cost after.cost before.left going.gap_limit has.cost (going.near (sym has.stopped ∙ goes)));
       };
       walks = λ first last walks. rw (has.cuts, has.left, has.lines) (target_falls p before (lesser after.cost before.left) falls first last walks);
+      best = λ first last walks.
+          keeps_lines p first before after (ap (λ (cs : KeptList). kept_cuts p cs.cuts) has.cuts) (ap (λ ls. lines_of ls.items) has.lines) has.left;
       lines = ap (λ ls. length ls.items) has.lines;
       made = has.made;
       stopped = has.stopped;
@@ -231,6 +271,7 @@ cut_at_step t before after cut sum loads going has own fits sums few =
         wanted = rw has.hubs going.wanted;
         cost = rw (has.hubs, has.cost) going.cost;
         at_most = rw has.cost going.at_most;
+        given = rw has.cost going.given;
         cost_limit = rw has.cost going.cost_limit;
         made = rw (has.lines, has.made) going.made;
         allowed = rw has.made going.allowed;
@@ -240,6 +281,10 @@ cut_at_step t before after cut sum loads going has own fits sums few =
       };
       walks = λ first last walks. rw (has.cuts, has.cost, has.left, has.lines, map_push (kept_cut p) before.cuts.cuts cut)
           (stays p (cuts_of p before) (kept_cut p cut ∷ []) (target_of before) (target_of before) first (lines_of before.lines.items) last (omega arith) walks);
+      best = λ first last walks.
+          keeps_cut p first last before after (kept_cut p cut) walks
+          (ap (λ (cs : KeptList). kept_cuts p cs.cuts) has.cuts ∙ map_push (kept_cut p) before.cuts.cuts cut)
+          (ap (λ ls. lines_of ls.items) has.lines) has.left;
       lines = ap (λ ls. length ls.items) has.lines;
       made = has.made;
       stopped = has.stopped;
@@ -266,6 +311,7 @@ left_going t before stopped low going spent near = record {
   wanted = going.wanted;
   cost = going.cost;
   at_most = going.at_most;
+  given = going.given;
   cost_limit = going.cost_limit;
   made = going.made;
   allowed = going.allowed;
@@ -282,16 +328,26 @@ pub left_below : (cost r : ℕ) (o : Option ℕ) → lesser cost (Some (lesser r
 left_below cost r None = omega arith
 left_below cost r (Some m) = omega arith
 
+-- the leaf proves no more than this at the branch
+abbrev pub LeafSays : Task → Branching → Progress → TreeLine → ℕ → Type 0
+LeafSays t b s line r = (target : ℕ) → IsSoundLine t.instance.now (cuts_of t.instance.now s) target b line → target ≤ r
+
 -- the branch was filled with a leaf that says this, whether or not there was a stop
-pub left_done : (t : Task) (b : Branching) (before after : Progress) (stopped : Bool) (r : ℕ)
-    → (MayBeWhole t b before → before.stopped ≡ false → after.stopped ≡ false)
-    → IsDone t b (leaving before stopped (lesser r before.left)) after → IsDone t b before after
-left_done t b before after stopped r enough done =
+pub left_done : (t : Task) (b : Branching) (before after : Progress) (stopped : Bool) (r : ℕ) (line : TreeLine)
+    → (MayBeWhole t b before → before.stopped ≡ false → after.stopped ≡ false) → LeafSays t b before line r
+    → IsDone t b (leaving before stopped (lesser r before.left)) after
+    → IsLastLine t b line (leaving before stopped (lesser r before.left)) after → IsDone t b before after
+left_done t b before after stopped r line enough leaf done last =
     let p = t.instance.now in
+    let falls = λ (first pending : List Branching) (walks : WalksTo p before first (b ∷ pending)).
+    target_falls p before (lesser before.cost (Some (lesser r before.left))) (left_falls before.cost r before.left) first (b ∷ pending) walks in
     record {
       going = done.going;
-      walks = λ first pending walks. done.walks first pending
-          (target_falls p before (lesser before.cost (Some (lesser r before.left))) (left_falls before.cost r before.left) first (b ∷ pending) walks);
+      walks = λ first pending walks. done.walks first pending (falls first pending walks);
+      best = λ first pending walks. λ target proves.
+          (let kept = done.best first pending (falls first pending walks) target proves in
+          let less = leaf target (last first pending target (falls first pending walks) proves) in
+          (kept.0, λ says. kept.1 (says_both target r before.left less says)));
       lines = done.lines;
       most = done.most;
       enough = enough;
@@ -308,10 +364,12 @@ too_few : {G : Type 0} (n : Option ℕ) (made free : ℕ) → IsEnough (made + 2
 too_few None made free room spent some = absurd spent
 too_few (Some n) made free room spent some = absurd (omega (arith, room, spent, two_free free some))
 
-pub stop_done : (t : Task) (b : Branching) (before after : Progress) (r : ℕ) → IsSpent t.nodes before.made
-    → (before.stopped ≡ false → 1 ≤ length b.free) → IsDone t b (leaving before true (lesser r before.left)) after → IsDone t b before after
-stop_done t b before after r spent due done =
-    left_done t b before after true r (λ room none. too_few t.nodes before.made (length b.free) room spent (due none)) done
+pub stop_done : (t : Task) (b : Branching) (before after : Progress) (r : ℕ) (line : TreeLine) → IsSpent t.nodes before.made
+    → (before.stopped ≡ false → 1 ≤ length b.free) → LeafSays t b before line r
+    → IsDone t b (leaving before true (lesser r before.left)) after
+    → IsLastLine t b line (leaving before true (lesser r before.left)) after → IsDone t b before after
+stop_done t b before after r line spent due leaf done last =
+    left_done t b before after true r line (λ room none. too_few t.nodes before.made (length b.free) room spent (due none)) leaf done last
 
 -- ---- children
 
@@ -327,9 +385,16 @@ halved_done t b k before begun middle after halved opened closed =
     let power : 2 ^ (length (open_child b k).free + 1) ≡ 2 ^ f = ap (λ (m : ℕ). 2 ^ m) fewer in
     let twice = double f in
     let some : 2 ≤ 2 ^ f = omega (arith, power, double (length (open_child b k).free), pow_pos (length (open_child b k).free)) in
+    let p = t.instance.now in
     record {
       going = closed.going;
       walks = λ first pending walks. closed.walks first pending (opened.walks first (closed_child b k ∷ pending) (halved.walks first pending walks));
+      best = λ first pending walks.
+          (let parted = halved.walks first pending walks in
+          let half = opened.walks first (closed_child b k ∷ pending) parted in
+          keeps_twice p first before middle after
+          (keeps_twice p first before begun middle (halved.best first pending walks) (opened.best first (closed_child b k ∷ pending) parted))
+          (closed.best first pending half));
       lines = omega (arith, halved.lines, halved.made, opened.lines, closed.lines);
       most = omega (arith, halved.made, opened.most, closed.most, power, twice);
       enough = λ room none.
@@ -344,13 +409,14 @@ halved_done t b k before begun middle after halved opened closed =
 
 -- ---- the end
 
-pub is_over : (t : Task) (begun after : Progress) → begun.lines.items ≡ [] → begun.made ≡ 1 → begun.stopped ≡ false
+pub is_over : (t : Task) (begun after : Progress) → begun.lines.items ≡ [] → begun.made ≡ 1 → begun.stopped ≡ false → begun.left ≡ None
     → IsDone t (root t.instance.now) begun after → IsOver t after
-is_over t begun after none one going done =
+is_over t begun after none one going silent done =
     let p = t.instance.now in
     record {
       going = done.going;
       walks = done.walks (root p ∷ []) [] (rw none refl);
+      best = λ target proves. (done.best (root p ∷ []) [] (rw none refl) target proves).1 (rw silent tt);
       lines = omega (arith, done.lines, ap length none, one);
       most = omega (arith, done.most, one);
       enough = λ enough.

@@ -2,7 +2,7 @@
 use Rattle.std.proofs.Common.{◌≡◌, ℕ, ◌<◌, ◌≤◌, Option, ◌⊎◌, ⊎_elim, arith}
 use Rattle.std.specs.Prelude.{length, Result, Ok, Err, IfOk}
 use Rattle.search_spec.specs.Findings.{IsSpent}
-use Rattle.kept_cuts.specs.declared.found.Found.{Found}
+use Rattle.cut_pool.specs.declared.found.Found.{Found}
 use Rattle.closing_search.specs.Gaps.{IsWithinGap}
 use Rattle.closing_search.proofs.Gaps.{no_gap}
 

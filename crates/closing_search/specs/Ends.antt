@@ -7,8 +7,8 @@ use Rattle.hub_spec.specs.Ranges.{IsFirstLine, IsLineInRange}
 use Rattle.hub_spec.specs.Trees.{Branching, HasRoom, TreeLine}
 use Rattle.search_spec.specs.Choices.{all_open, only_set}
 use Rattle.search_spec.specs.Laws.{IsWantedSet}
-use Rattle.tree_walks.specs.Walks.{IsSoundLine, filled}
-use Rattle.kept_cuts.specs.Findings.{IsUnlimited}
+use Rattle.search_spec.specs.Walks.{IsSoundLine, filled}
+use Rattle.cut_pool.specs.Findings.{IsUnlimited}
 
 -- a line after which nothing more is to be filled
 abbrev pub IsEndLine : TreeLine → Type 0

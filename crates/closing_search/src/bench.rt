@@ -5,12 +5,12 @@ ghost use Rattle.hub_spec.specs.Problem.{Problem};
 ghost use Rattle.hub_spec.specs.Plans.{IsHubSet};
 ghost use Rattle.hub_spec.specs.Separation.{IsOrder, set_cut};
 ghost use Rattle.value_cuts.specs.Values.{AreValuesFor, value_cut};
-ghost use Rattle.kept_cuts.specs.Kept.{kept_of, by_values};
+ghost use Rattle.cut_pool.specs.Kept.{kept_of, by_values};
 ghost use Rattle.closing_search.specs.SingleCuts.{AreLoads};
 
 use crate::pricing::Pricing;
+use cut_pool::{KeptCut, PackedValues};
 use hub_model::Instance;
-use kept_cuts::{KeptCut, PackedValues};
 use pareto_cuts::Scratch;
 use plan_model::HubSet;
 use std::alloc::{AllocError, Global};

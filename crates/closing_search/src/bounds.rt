@@ -5,7 +5,7 @@ ghost use Rattle.hub_spec.specs.Problem.{IsProblem};
 ghost use Rattle.hub_spec.specs.Cuts.{Cut};
 ghost use Rattle.hub_spec.specs.Trees.{IsBranch, HasRoom, leaf_bound, cut_at, Closes};
 ghost use Rattle.hub_spec.specs.Limits.{most_cost};
-ghost use Rattle.leaf_bound.specs.Numbers.{AreWeightingNumbers, IsBranchBelow, weighting_of};
+ghost use Rattle.leaf_bound.specs.Numbers.{AreWeightingNumbers, IsBranchWithin, weighting_of};
 ghost use Rattle.leaf_bound.specs.Weighing.{most_bound, IsWithin};
 ghost use Rattle.search_spec.specs.States.{denominator};
 ghost use Rattle.closing_search.specs.Gaps.{goal_of};
@@ -66,7 +66,7 @@ fn bare_weighting<'a>(instance: &'a Instance) -> Weighting<'a>
 // The bound of the branch, which has room, under these weights: by the number of hubs that is wanted, if one is.
 fn bound_by_number(instance: &Instance, weighting: &Weighting, branch: &Branch) -> i128
     requires numbers { AreWeightingNumbers weighting.now }
-    requires nodes { IsBranchBelow (length weighting.now.fixed.now) branch.now }
+    requires nodes { IsBranchWithin weighting.now branch.now }
     requires room { HasRoom instance.now.wanted branch.now }
     ensures value { result ≡ bound_for instance.now.wanted (weighting_of weighting.now) branch.now }
     ensures limit { IsWithin most_bound result }

@@ -2,14 +2,14 @@
 
 ghost use Rattle.std.specs.Prelude.{◌≡◌, ◌≤◌, length, IfOk, OnOk};
 ghost use Rattle.hub_spec.specs.Trees.{cut_at};
-ghost use Rattle.kept_cuts.specs.Kept.{kept_of, kept_cut, IsRemade, IsKeptFor};
+ghost use Rattle.cut_pool.specs.Kept.{kept_of, kept_cut, IsRemade, IsKeptFor};
 ghost use Rattle.closing_search.specs.SingleCuts.{AreLoads};
 ghost use Rattle.closing_search.specs.Progressing.{cuts_of, IsGoing, IsAt};
 ghost use Rattle.closing_search.specs.Walking.{IsSameWalk};
 
 use crate::walk::Walk;
+use cut_pool::KeptCut;
 use hub_model::MOST_CUTS;
-use kept_cuts::KeptCut;
 use std::alloc::AllocError;
 
 impl Walk<'_> {

@@ -1,21 +1,22 @@
 //! The whole search.
 
-ghost use Rattle.std.specs.Prelude.{◌≡◌, ℕ, ◌+◌, ◌^◌, ◌≤◌, ◌<◌, [], ◌∷◌, ◌⊎◌, length, None, false, IfOk};
+ghost use Rattle.std.specs.Prelude.{◌≡◌, ◌+◌, ◌^◌, ◌≤◌, ◌<◌, [], ◌∷◌, ◌⊎◌, length, None, false, IfOk};
 ghost use Rattle.std.specs.List.{AllZip};
 ghost use Rattle.hub_spec.specs.Problem.{IsProblem, commodities};
 ghost use Rattle.hub_spec.specs.Plans.{IsHubSet, IsSetCost, IsLeastRoute, NoPlanBelow};
 ghost use Rattle.hub_spec.specs.Trees.{root};
+ghost use Rattle.search_spec.specs.Costs.{IsAtMostOf, first_hubs};
 ghost use Rattle.search_spec.specs.Findings.{AreWithin, IsSpent, IsEnough};
-ghost use Rattle.kept_cuts.specs.Findings.{AreRemade, IsProved};
+ghost use Rattle.cut_pool.specs.Findings.{AreRemade, IsProved};
 ghost use Rattle.closing_search.specs.Gaps.{most_gap, IsWithinGap};
-ghost use Rattle.closing_search.specs.Progressing.{AreFirstHubs, IsGoing, IsDone, IsOver};
+ghost use Rattle.closing_search.specs.Progressing.{AreFirstHubs, IsWantedAs, IsFirst, IsGoing, IsDone, IsOver, IsBestBound};
 
-use crate::progress::{Progress, offer_nodes, target};
+use crate::progress::{Progress, target, wanted_set};
 use crate::task::Task;
 use crate::walker::Walker;
 use assign_sub::{assign, cost_of_set};
+use cut_pool::{Found, KeptCuts};
 use hub_model::Instance;
-use kept_cuts::{Found, KeptCuts};
 use plan_model::{Branch, HubSet, Plan};
 use search_advice::Advice;
 use std::alloc::{AllocError, Global};
@@ -23,14 +24,14 @@ use std::thread::Threads;
 
 /// A wanted plan with the cuts and the tree that bound what any wanted plan costs. `nodes` is the most nodes of the tree,
 /// the root among them; with `None` they are not limited. The routes are least ones through the hubs of the plan, of those
-/// that are allowed. Where any number of hubs will do it costs at most what all candidates as hubs cost, since the search
-/// begins with them; else it begins with the first candidates, as many as are wanted.
+/// that are allowed. It costs at most what all candidates as hubs cost, since the search begins with them; where a number of
+/// hubs is wanted, what as many of the least candidates cost.
 ///
 /// All candidates together lack no commodity: else there is no plan, which is for who calls to say (`assign_sub::lacking`).
 /// Where no length of routes is limited that is so (`all_candidates_serve`).
 ///
 /// Only where two nodes more are not allowed the search stops, and then the bound may be below the cost. Else both are
-/// equal and the plan is optimal. So many nodes as a whole tree has, 2^(q + 1) - 1 for q candidates, are always enough.
+/// equal and the plan is optimal. The bound is the greatest that its cuts prove by its tree. So many nodes as a whole tree has, 2^(q + 1) - 1 for q candidates, are always enough.
 ///
 /// Nothing of the advice is relied on. What is found is the same for equal advice; who advises may make passes by workers,
 /// in threads of their own.
@@ -48,8 +49,8 @@ pub fn optimize<R: Threads + Sync, A: Advice + Drop>(
     ensures proved { IfOk result (IsProved instance.now) }
     ensures own { IfOk result AreRemade }
     ensures routes { IfOk result (λ found. AllZip (IsLeastRoute instance.now found.plan.hubs) (commodities instance.now.size) found.plan.routes) }
-    ensures at_most { instance.now.wanted ≡ None
-        → IfOk result (λ found. (cost : ℕ) → IsSetCost instance.now instance.now.candidates cost → found.cost ≤ cost) }
+    ensures at_most { IfOk result (λ found. IsAtMostOf instance.now (first_hubs instance.now) found.cost) }
+    ensures best { IfOk result (IsBestBound instance.now) }
     ensures within { IfOk result (λ found. found.bound ≤ found.cost) }
     ensures below { IfOk result (λ found. NoPlanBelow instance.now found.bound) }
     ensures most { IfOk result (λ found. length found.tree.items + 1 ≤ 2 ^ (length instance.now.candidates + 1)) }
@@ -68,7 +69,8 @@ pub fn optimize<R: Threads + Sync, A: Advice + Drop>(
     optimize_within(rt, alloc, &task, advice)
 }
 
-/// The same for a task, up to its gap: how far the bound may be below the cost. Only where two nodes more are not allowed
+/// The same for a task, up to its gap: how far the bound may be below the cost. The plan costs at most what the task's first
+/// nodes do too, where they are a set of candidates, as many as are wanted, that lacks no commodity. Only where two nodes more are not allowed
 /// the search stops, and then the bound may be further below. With a gap of 0 and no first nodes it is `optimize`. The
 /// number of workers changes nothing of what is found.
 pub fn optimize_within<R: Threads + Sync, A: Advice + Drop>(
@@ -83,8 +85,9 @@ pub fn optimize_within<R: Threads + Sync, A: Advice + Drop>(
     ensures proved { IfOk result (IsProved task.now.instance.now) }
     ensures own { IfOk result AreRemade }
     ensures routes { IfOk result (λ found. AllZip (IsLeastRoute task.now.instance.now found.plan.hubs) (commodities task.now.instance.now.size) found.plan.routes) }
-    ensures at_most { task.now.instance.now.wanted ≡ None
-        → IfOk result (λ found. (cost : ℕ) → IsSetCost task.now.instance.now task.now.instance.now.candidates cost → found.cost ≤ cost) }
+    ensures at_most { let p = task.now.instance.now in IfOk result (λ found. IsAtMostOf p (first_hubs p) found.cost) }
+    ensures given { IfOk result (λ found. IsAtMostOf task.now.instance.now task.now.first.now found.cost) }
+    ensures best { IfOk result (IsBestBound task.now.instance.now) }
     ensures within { IfOk result (λ found. found.bound ≤ found.cost) }
     ensures below { IfOk result (λ found. NoPlanBelow task.now.instance.now found.bound) }
     ensures most { IfOk result (λ found. length found.tree.items + 1 ≤ 2 ^ (length task.now.instance.now.candidates + 1)) }
@@ -126,23 +129,9 @@ fn begin(alloc: Global, task: &Task) -> Result<Progress, AllocError>
     ensures no_line { IfOk result (λ s. s.lines.items ≡ []) }
     ensures one_node { IfOk result (λ s. s.made ≡ 1) }
     ensures no_stop { IfOk result (λ s. s.stopped ≡ false) }
+    ensures no_left { IfOk result (λ s. s.left ≡ None) }
 {
-    let mut progress = bare_progress(alloc, task)?;
-    offer_nodes(alloc, task, task.first, &mut progress)?;
-    Ok(progress)
-}
-
-// No cut and no line, and the incumbent that the instance gives.
-fn bare_progress(alloc: Global, task: &Task) -> Result<Progress, AllocError>
-    requires lacks_none { IsHubSet task.now.instance.now task.now.instance.now.candidates }
-    requires gap { task.now.gap ≤ most_gap }
-    ensures going { IfOk result (IsGoing task.now) }
-    ensures no_line { IfOk result (λ s. s.lines.items ≡ []) }
-    ensures one_node { IfOk result (λ s. s.made ≡ 1) }
-    ensures no_stop { IfOk result (λ s. s.stopped ≡ false) }
-{
-    let hubs = HubSet::of(alloc, first_hubs(task.instance))?;
-    let cost = cost_of_set(task.instance, hubs.members());
+    let Incumbent { hubs, cost } = first_incumbent(alloc, task)?;
     Ok(Progress {
         cuts: KeptCuts::new(alloc),
         lines: Vec::new(alloc),
@@ -154,7 +143,47 @@ fn bare_progress(alloc: Global, task: &Task) -> Result<Progress, AllocError>
     })
 }
 
-// The hubs of that incumbent: all candidates, or the first ones, as many as are wanted.
+// A hub set with its cost.
+#[derive(Drop)]
+struct Incumbent {
+    hubs: HubSet,
+    cost: u128,
+}
+
+// The hubs that the instance gives, or the first nodes of the task, where they are a hub set that is wanted and cost less.
+fn first_incumbent(alloc: Global, task: &Task) -> Result<Incumbent, AllocError>
+    requires lacks_none { IsHubSet task.now.instance.now task.now.instance.now.candidates }
+    ensures problem { IsProblem task.now.instance.now }
+    ensures first { IfOk result (λ first. IsFirst task.now first.hubs first.cost) }
+{
+    let hubs = HubSet::of(alloc, first_hubs(task.instance))?;
+    let cost = cost_of_set(task.instance, hubs.members());
+    let own = Incumbent { hubs, cost };
+    let told = wanted_set(alloc, task.instance, task.first)?;
+    match told {
+        None => Ok(own),
+        Some(given) => Ok(cheaper(task, own, given)),
+    }
+}
+
+// The incumbent, or the task's first nodes where they cost less.
+fn cheaper(task: &Task, own: Incumbent, given: HubSet) -> Incumbent
+    requires first { AreFirstHubs task.now.instance.now own.hubs }
+    requires cost { IsSetCost task.now.instance.now own.hubs own.cost }
+    requires given { IsWantedAs task.now.instance.now task.now.first.now given }
+    ensures { IsFirst task.now result.hubs result.cost }
+{
+    let less = cost_of_set(task.instance, given.members());
+    if less < own.cost {
+        return Incumbent {
+            hubs: given,
+            cost: less,
+        };
+    }
+    own
+}
+
+// The hubs that the instance gives: all candidates, or the first ones, as many as are wanted.
 fn first_hubs(instance: &Instance) -> &[u32]
     requires lacks_none { IsHubSet instance.now instance.now.candidates }
     ensures problem { IsProblem instance.now }
@@ -174,8 +203,9 @@ fn finish(alloc: Global, task: &Task, progress: Progress) -> Result<Found, Alloc
     ensures own { IfOk result AreRemade }
     ensures routes { let p = task.now.instance.now in
         IfOk result (λ found. AllZip (IsLeastRoute p found.plan.hubs) (commodities p.size) found.plan.routes) }
-    ensures at_most { let p = task.now.instance.now in p.wanted ≡ None
-        → IfOk result (λ found. (cost : ℕ) → IsSetCost p p.candidates cost → found.cost ≤ cost) }
+    ensures at_most { let p = task.now.instance.now in IfOk result (λ found. IsAtMostOf p (first_hubs p) found.cost) }
+    ensures given { IfOk result (λ found. IsAtMostOf task.now.instance.now task.now.first.now found.cost) }
+    ensures best { IfOk result (IsBestBound task.now.instance.now) }
     ensures within { IfOk result (λ found. found.bound ≤ found.cost) }
     ensures below { IfOk result (λ found. NoPlanBelow task.now.instance.now found.bound) }
     ensures most { IfOk result (λ found. length found.tree.items + 1 ≤ 2 ^ (length task.now.instance.now.candidates + 1)) }

@@ -7,10 +7,9 @@ ghost use Rattle.value_cuts.specs.Prices.{AreRowPrices};
 ghost use Rattle.closing_search.specs.SingleCuts.{AreLoads};
 ghost use Rattle.closing_search.specs.Benches.{IsPricingFor};
 
-use par_values::set_prices;
 use std::alloc::{AllocError, Global};
 use std::thread::Threads;
-use value_cuts::{CandidateLegs, PriceScratch, Values, sums_of};
+use value_cuts::{CandidateLegs, PriceScratch, Values, set_prices_by_workers, sums_of};
 
 /// The values that were taken last, and the prices and loads of their cut.
 #[derive(Drop)]
@@ -60,7 +59,7 @@ impl Pricing {
         ensures fit { IsPricingFor tables.now self.new }
         ensures prices { OnOk result (AreRowPrices tables.now self.new.values self.new.prices.items) }
     {
-        set_prices(
+        set_prices_by_workers(
             rt,
             alloc,
             tables,

@@ -1,22 +1,24 @@
 //! What a search has so far, and the lines that it adds.
 
-ghost use Rattle.std.specs.Prelude.{◌≡◌, ◌+◌, ◌≤◌, IsTrue, false, Contains, OnOk};
+ghost use Rattle.std.specs.Prelude.{◌≡◌, ◌+◌, ◌≤◌, IsTrue, false, Contains, None, IfSome, IfOk, OnOk};
 ghost use Rattle.hub_spec.specs.Limits.{most_cost};
 ghost use Rattle.hub_spec.specs.Plans.{IsHubSet, HasWanted, IsSetCost};
 ghost use Rattle.hub_spec.specs.Trees.{IsBranch};
 ghost use Rattle.hub_spec.specs.Ranges.{IsFirstLine, IsLineInRange};
 ghost use Rattle.plan_model.specs.Lines.{tree_line_of};
+ghost use Rattle.search_spec.specs.Laws.{IsWantedSet};
 ghost use Rattle.search_spec.specs.Findings.{AreWithin, IsSpent};
-ghost use Rattle.tree_walks.specs.Walks.{IsSoundLine};
-ghost use Rattle.kept_cuts.specs.Findings.{IsUnlimited};
+ghost use Rattle.search_spec.specs.Walks.{IsSoundLine};
+ghost use Rattle.cut_pool.specs.Findings.{IsUnlimited};
 ghost use Rattle.closing_search.specs.Ends.{IsEndLine};
 ghost use Rattle.closing_search.specs.Gaps.{goal_of};
-ghost use Rattle.closing_search.specs.Progressing.{cuts_of, target_of, IsGoing, IsAt, IsDone, IsHalved};
+ghost use Rattle.closing_search.specs.Progressing.{cuts_of, target_of, IsWantedAs, IsGoing, IsAt, IsDone, IsLastLine, IsHalved};
 
 use crate::task::{MOST_GAP, Task};
 use assign_sub::{cost_of_set, lacking};
+use cut_pool::KeptCuts;
+use hub_model::Instance;
 use hub_plain::{has_wanted, is_candidate_set};
-use kept_cuts::KeptCuts;
 use plan_model::{Branch, HubSet, TreeLine};
 use search_core::{add_line, lesser};
 use std::alloc::{AllocError, Global};
@@ -62,7 +64,8 @@ pub(crate) fn end_with(
     requires sound { IsSoundLine task.now.instance.now (cuts_of task.now.instance.now progress.old) (target_of progress.old) branch.now (tree_line_of line) }
     requires in_range { IsLineInRange task.now.instance.now.size (tree_line_of line) }
     requires first { IsUnlimited task.now.instance.now → IsFirstLine (tree_line_of line) }
-    ensures { OnOk result (IsDone task.now branch.now progress.old progress.new) }
+    ensures done { OnOk result (IsDone task.now branch.now progress.old progress.new) }
+    ensures last { OnOk result (IsLastLine task.now branch.now (tree_line_of line) progress.old progress.new) }
 {
     add_line(&mut progress.lines, line)?;
     Ok(())
@@ -122,14 +125,32 @@ pub(crate) fn offer_nodes(
     requires { IsGoing task.now progress.old }
     ensures { OnOk result (IsAt task.now progress.old progress.new) }
 {
-    if !is_candidate_set(task.instance, hubs) || !has_wanted(task.instance, hubs) {
-        return Ok(());
+    if let Some(set) = wanted_set(alloc, task.instance, hubs)? {
+        let cost = cost_of_set(task.instance, set.members());
+        offer(task, set, cost, progress);
     }
-    let set = HubSet::of(alloc, hubs)?;
-    if lacking(task.instance, &set).is_some() {
-        return Ok(());
-    }
-    let cost = cost_of_set(task.instance, set.members());
-    offer(task, set, cost, progress);
     Ok(())
+}
+
+/// The nodes, whatever they are, as a hub set, if they are a set of candidates, as many as are wanted, that lacks no
+/// commodity.
+pub(crate) fn wanted_set(
+    alloc: Global,
+    instance: &Instance,
+    nodes: &[u32],
+) -> Result<Option<HubSet>, AllocError>
+    ensures set { IfOk result (λ found. IfSome found (IsWantedAs instance.now nodes.now)) }
+    ensures none { IfOk result (λ found. found ≡ None → IsWantedSet instance.now nodes.now → ⊥) }
+{
+    if !is_candidate_set(instance, nodes) {
+        return Ok(None);
+    }
+    if !has_wanted(instance, nodes) {
+        return Ok(None);
+    }
+    let set = HubSet::of(alloc, nodes)?;
+    match lacking(instance, &set) {
+        Some(_) => Ok(None),
+        None => Ok(Some(set)),
+    }
 }

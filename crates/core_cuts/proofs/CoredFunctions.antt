@@ -9,7 +9,7 @@ use Rattle.hub_spec.specs.Cuts.{Prices, Cut}
 use Rattle.hub_spec.specs.Limits.{most_part}
 use Rattle.hub_spec.specs.Problem.{Problem, commodities}
 use Rattle.core_spec.specs.CoreCuts.{CoreProof, Mark, MayBeMarked}
-use Rattle.marked_cuts.specs.MarkedCuts.{MarkedCut}
+use Rattle.cut_model.specs.MarkedCuts.{MarkedCut}
 use Rattle.core_cuts.specs.Brought.{IsSoundFound}
 use Rattle.core_cuts.specs.Finding.{first_from, may_be_marked, core_founds, is_common_part, is_fit_cut, marked_at, marked_by_part, marked_by, core_marked}
 use Rattle.core_cuts.specs.FoundCuts.{IsCommonPart, IsLeastCommonPart, parts_of, proofs_of, brought, brought_cut, IsCutOf, IsFitCut, IsCored, IsPlain}

@@ -12,8 +12,8 @@ use Rattle.hub_spec.proofs.SetCutFunction.{least_cost_is, value_at_listed, all_l
 use Rattle.hub_spec.proofs.Sets.{All-from_contains}
 use Rattle.core_spec.specs.CoreCuts.{IsCoreDual}
 use Rattle.core_spec.proofs.Lengths.{unit_length, length_costs}
-use Rattle.core_runs.specs.Theorems.{IsMadeOf}
-use Rattle.core_runs.proofs.Found.{found_is_core, length_limit, quotient_limit}
+use Rattle.core_cuts.specs.RunTheorems.{IsMadeOf}
+use Rattle.core_cuts.proofs.Found.{found_is_core, length_limit, quotient_limit}
 use Rattle.core_cuts.specs.Bodies.{most_unit}
 use Rattle.core_cuts.specs.Readings.{Reading, value_of, core_run, dual_of, ways_at, proof_of, most_units, IsReading, IsFit, FoundDual, found_of}
 use Rattle.core_cuts.specs.Theorems.{IsAsked, FoundIsCore}

@@ -9,8 +9,8 @@ use Rattle.std.proofs.lemmas.List.Elements.{All-nil, All-cons, All-append, All-m
 use Rattle.hub_spec.proofs.Sets.{is_in}
 use Rattle.frac_rows.specs.Rows.{widest, number, AreNarrow}
 use Rattle.frac_rows.specs.Stored.{piece, standing, columns_of}
-use Rattle.core_runs.specs.CoreTables.{through, counts, price_column, value_column}
-use Rattle.core_runs.proofs.UnitBalances.{number_of_map, number_after}
+use Rattle.core_cuts.specs.CoreTables.{through, counts, price_column, value_column}
+use Rattle.core_cuts.proofs.UnitBalances.{number_of_map, number_after}
 use Rattle.core_cuts.specs.Bodies.{way_row, objective_row}
 
 -- the rows of these ways, and the objective row

@@ -13,11 +13,11 @@ use Rattle.frac_rows.proofs.BasicSolutions.{IsPivotal}
 use Rattle.frac_rows.proofs.FirstTables.{first_is_table}
 use Rattle.frac_rows.proofs.LastSolutions.{pivotal_last}
 use Rattle.frac_rows.proofs.RunLaws.{run_keeps_rights}
-use Rattle.core_runs.specs.Combined.{IsCombined}
-use Rattle.core_runs.specs.CoreTables.{core_edges, edge_right, value_column, core_columns, core_rights, core_table}
-use Rattle.core_runs.proofs.BestCovers.{columns_long}
-use Rattle.core_runs.proofs.Combining.{run_combines}
-use Rattle.core_runs.proofs.Found.{core_is_narrow}
+use Rattle.core_cuts.specs.Combined.{IsCombined}
+use Rattle.core_cuts.specs.CoreTables.{core_edges, edge_right, value_column, core_columns, core_rights, core_table}
+use Rattle.core_cuts.proofs.BestCovers.{columns_long}
+use Rattle.core_cuts.proofs.Combining.{run_combines}
+use Rattle.core_cuts.proofs.Found.{core_is_narrow}
 use Rattle.core_cuts.specs.Readings.{core_run}
 use Rattle.core_cuts.specs.Theorems.{IsAsked}
 

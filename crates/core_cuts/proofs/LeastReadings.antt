@@ -10,8 +10,8 @@ use Rattle.std.proofs.lemmas.List.{get_or-map, length-map, length-drop}
 use Rattle.std.proofs.lemmas.List.Elements.{All-nil, All-cons, All-head, All-tail, All-weaker}
 use Rattle.hub_spec.specs.Problem.{Problem, IsProblem}
 use Rattle.frac_rows.specs.Rows.{Table, number, row_at}
-use Rattle.core_runs.specs.Theorems.{variable_of}
-use Rattle.core_runs.proofs.UnitBalances.{basic_or_not}
+use Rattle.core_cuts.specs.RunTheorems.{variable_of}
+use Rattle.core_cuts.proofs.UnitBalances.{basic_or_not}
 use Rattle.core_cuts.specs.declared.ratios.Ratio.{Ratio}
 use Rattle.core_cuts.specs.BasicRatios.{AreRatios, IsWholeAt, whole_at, IsLeastPart, nothing, reading_at, IsLeastReading}
 use Rattle.core_cuts.specs.Readings.{Reading, value_of, IsWhole}

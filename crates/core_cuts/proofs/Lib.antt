@@ -24,3 +24,9 @@ pub mod SameRuns
 pub mod AheadDuals
 pub mod NotedRatios
 pub mod TakenWays
+pub mod Combining
+pub mod BestCovers
+pub mod UnitBalances
+pub mod MadeDuals
+pub mod OrderedWays
+pub mod Found

@@ -5,7 +5,7 @@ use Rattle.std.proofs.lemmas.Simd.{map-map}
 use Rattle.std.proofs.lemmas.List.Elements.{filter-append, filter_more}
 use Rattle.hub_spec.specs.Problem.{Problem, flow}
 use Rattle.core_spec.specs.CoreCuts.{pair_cost}
-use Rattle.core_runs.specs.CoreTables.{is_needed, pairs_of, edge_right}
+use Rattle.core_cuts.specs.CoreTables.{is_needed, pairs_of, edge_right}
 use Rattle.core_cuts.specs.Ahead.{AreCosts}
 
 -- the needed edges of the candidates from this place on

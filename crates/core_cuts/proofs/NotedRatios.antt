@@ -5,7 +5,7 @@ use Rattle.std.proofs.lemmas.List.{length-set, get_or-set_same, get_or-set_other
 use Rattle.frac_rows.specs.Rows.{Table, number, row_at, right_side}
 use Rattle.frac_rows.specs.Theorems.{IsBasic}
 use Rattle.frac_rows.proofs.LeavingRows.{once_basic}
-use Rattle.core_runs.proofs.UnitBalances.{basic_or_not}
+use Rattle.core_cuts.proofs.UnitBalances.{basic_or_not}
 use Rattle.core_cuts.specs.BasicRatios.{IsRatio, AreRatios, AreNoted}
 use Rattle.core_cuts.specs.declared.ratios.Ratio.{Ratio}
 

@@ -9,11 +9,11 @@ use Rattle.frac_rows.specs.Theorems.{IsBasic}
 use Rattle.frac_rows.proofs.Solutions.{positive_size}
 use Rattle.frac_rows.proofs.RunLaws.{run_keeps_basis}
 use Rattle.frac_rows.proofs.FirstTables.{first_is_table}
-use Rattle.core_runs.specs.CoreTables.{core_columns, core_rights, core_table}
-use Rattle.core_runs.specs.Theorems.{variable_of}
-use Rattle.core_runs.proofs.Combining.{equal_from_times}
-use Rattle.core_runs.proofs.UnitBalances.{basic_or_not}
-use Rattle.core_runs.proofs.Found.{core_is_narrow}
+use Rattle.core_cuts.specs.CoreTables.{core_columns, core_rights, core_table}
+use Rattle.core_cuts.specs.RunTheorems.{variable_of}
+use Rattle.core_cuts.proofs.Combining.{equal_from_times}
+use Rattle.core_cuts.proofs.UnitBalances.{basic_or_not}
+use Rattle.core_cuts.proofs.Found.{core_is_narrow}
 use Rattle.core_cuts.specs.Readings.{Reading, value_of, core_run, IsWhole, IsReading, found_of, IsFit}
 use Rattle.core_cuts.specs.Theorems.{IsAsked, FoundIsOne, FoundOrNot}
 use Rattle.core_cuts.proofs.Zipped.{same_values}

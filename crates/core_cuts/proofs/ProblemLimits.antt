@@ -7,9 +7,9 @@ use Rattle.std.proofs.lemmas.List.Elements.{All-weaker, All-contains, All-map, A
 use Rattle.hub_spec.specs.Problem.{Problem, IsProblem, flow}
 use Rattle.core_spec.specs.CoreCuts.{pair_cost}
 use Rattle.hub_spec.proofs.SumLemmas.{by_test}
-use Rattle.core_runs.specs.CoreTables.{is_needed, pairs_of, core_edges, core_rights, edge_right}
-use Rattle.core_runs.proofs.BestCovers.{edges_by}
-use Rattle.core_runs.proofs.Found.{right_limit}
+use Rattle.core_cuts.specs.CoreTables.{is_needed, pairs_of, core_edges, core_rights, edge_right}
+use Rattle.core_cuts.proofs.BestCovers.{edges_by}
+use Rattle.core_cuts.proofs.Found.{right_limit}
 use Rattle.core_cuts.specs.Bodies.{most_unit}
 
 pairs_few : (ks : List ℕ) → length (pairs_of ks) ≤ length ks * length ks

@@ -7,7 +7,7 @@ use Rattle.frac_rows.specs.Rows.{Table}
 use Rattle.frac_rows.specs.Runs.{Outcome, run}
 use Rattle.frac_rows.specs.Starts.{start}
 use Rattle.frac_rows.specs.declared.ended.Ended.TheVariants.{Best}
-use Rattle.core_runs.specs.CoreTables.{core_edges, core_rights, core_table}
+use Rattle.core_cuts.specs.CoreTables.{core_edges, core_rights, core_table}
 use Rattle.core_cuts.specs.Ahead.{AreWays, IsReadOff, IsRead}
 use Rattle.core_cuts.specs.BasicRatios.{IsLeastReading}
 use Rattle.core_cuts.specs.Bodies.{table_proof}

@@ -3,7 +3,7 @@ use Rattle.std.proofs.Common.{◌≡◌, ℕ, ◌+◌, ◌<◌, true, false, con
 use Rattle.std.proofs.lemmas.Bool.{cases_Bool, cond-true, cond-false, and_right}
 use Rattle.std.proofs.lemmas.List.{append_assoc, drop_more}
 use Rattle.core_spec.specs.CoreCuts.{Way}
-use Rattle.core_runs.specs.CoreTables.{ways_of, begins_at, ordered_ways}
+use Rattle.core_cuts.specs.CoreTables.{ways_of, begins_at, ordered_ways}
 use Rattle.core_cuts.specs.Bodies.{is_taken}
 
 filter_taken : (k : ℕ) (ways : List Way) → filter (begins_at k) (filter is_taken ways) ≡ filter (begins_at k) ways

@@ -13,7 +13,7 @@ use Rattle.hub_spec.specs.Cuts.{Prices, Cut, value_at, load}
 use Rattle.hub_spec.specs.Ranges.{IsDualInRange}
 use Rattle.hub_spec.specs.Separation.{AreListedValues}
 use Rattle.hub_spec.proofs.Commodities.{commodity_at, next_route_at, length_commodities}
-use Rattle.stated_cuts.proofs.RunSums.{nodes_as_often}
+use Rattle.cut_model.proofs.RunSums.{nodes_as_often}
 use Rattle.core_cuts.specs.Brought.{most_sum, IsDualWithin, IsSoundFound}
 use Rattle.core_cuts.specs.FoundCuts.{times_values, brought, brought_cut, IsFitDual, IsFitCut}
 use Rattle.core_cuts.specs.Readings.{most_units, FoundDual}

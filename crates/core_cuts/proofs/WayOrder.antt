@@ -9,7 +9,7 @@ use Rattle.hub_spec.proofs.SumLemmas.{by_test}
 use Rattle.hub_spec.proofs.Sets.{All-from_contains, Contains-head, Contains-later, ascend_tail, ascend_head}
 use Rattle.frac_rows.specs.Rows.{objective}
 use Rattle.core_spec.specs.CoreCuts.{Way}
-use Rattle.core_runs.specs.CoreTables.{is_needed, pairs_of, core_edges, ways_of, begins_at, ordered_ways}
+use Rattle.core_cuts.specs.CoreTables.{is_needed, pairs_of, core_edges, ways_of, begins_at, ordered_ways}
 use Rattle.core_cuts.specs.Readings.{ways_at, core_run, proof_of, found_of, FoundDual}
 use Rattle.core_spec.specs.MarkRanges.{IsWayBefore}
 use Rattle.core_cuts.specs.Theorems.{IsLineWay, FoundInOrder}

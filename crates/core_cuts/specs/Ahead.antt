@@ -5,7 +5,7 @@ use Rattle.hub_spec.specs.Limits.{most_part}
 use Rattle.hub_spec.specs.Problem.{Problem, commodities}
 use Rattle.core_spec.specs.CoreCuts.{CoreProof}
 use Rattle.frac_rows.specs.Rows.{Table}
-use Rattle.core_runs.specs.CoreTables.{core_edges, edge_right, core_rights}
+use Rattle.core_cuts.specs.CoreTables.{core_edges, edge_right, core_rights}
 use Rattle.core_cuts.specs.BasicRatios.{IsLeastReading}
 use Rattle.core_cuts.specs.Bodies.{table_proof}
 use Rattle.core_cuts.specs.Readings.{Reading, IsReading, proof_of, FoundDual, IsFound}

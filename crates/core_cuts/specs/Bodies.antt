@@ -2,7 +2,7 @@
 use Rattle.std.specs.Prelude.{ℕ, ◌+◌, ◌*◌, ◌^◌, Bool, nat_lt, List, ◌∷◌, length, map, drop, ℤ, pos, ◌-ℤ◌}
 use Rattle.core_spec.specs.CoreCuts.{Way, CoreProof}
 use Rattle.frac_rows.specs.Rows.{Table, objective}
-use Rattle.core_runs.specs.CoreTables.{through, counts, ways_of, ordered_ways}
+use Rattle.core_cuts.specs.CoreTables.{through, counts, ways_of, ordered_ways}
 use Rattle.core_cuts.specs.Readings.{scale_at}
 
 -- of what a way costs by unit of flow, in 10^-6: three legs at the greatest distance and factor

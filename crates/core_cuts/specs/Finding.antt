@@ -11,7 +11,7 @@ use Rattle.core_spec.specs.MarkRanges.{most_scale, most_taken}
 use Rattle.frac_rows.specs.Rows.{Table, number, row_at, right_side}
 use Rattle.frac_rows.specs.declared.ended.Ended.{Ended}
 use Rattle.frac_rows.specs.declared.ended.Ended.TheVariants.{Best, Turns, Wide}
-use Rattle.marked_cuts.specs.MarkedCuts.{MarkedCut}
+use Rattle.cut_model.specs.MarkedCuts.{MarkedCut}
 use Rattle.core_cuts.specs.declared.ratios.Ratio.{Ratio}
 use Rattle.core_cuts.specs.BasicRatios.{nothing, reading_at}
 use Rattle.core_cuts.specs.FoundCuts.{parts_of, proofs_of, brought_cut}

@@ -6,7 +6,7 @@ use Rattle.hub_spec.specs.Limits.{most_part, most_denominator}
 use Rattle.hub_spec.specs.Problem.{Problem, flow, commodities}
 use Rattle.hub_spec.specs.Cuts.{Prices, Cut, IsWithinSums}
 use Rattle.core_spec.specs.CoreCuts.{CoreProof, Mark, MayBeMarked}
-use Rattle.marked_cuts.specs.MarkedCuts.{MarkedCut}
+use Rattle.cut_model.specs.MarkedCuts.{MarkedCut}
 use Rattle.core_cuts.specs.Readings.{most_units, FoundDual, IsFound, IsNotFound}
 
 -- every part divides the number; and it is the least that they all divide

@@ -6,3 +6,6 @@ pub mod Finding
 pub mod FoundCuts
 pub mod Readings
 pub mod Theorems
+pub mod Combined
+pub mod CoreTables
+pub mod RunTheorems

@@ -10,8 +10,8 @@ use Rattle.frac_rows.specs.Rows.{Table, number, objective}
 use Rattle.frac_rows.specs.Runs.{Outcome, run}
 use Rattle.frac_rows.specs.declared.ended.Ended.TheVariants.{Best, Turns, Wide}
 use Rattle.core_spec.specs.MarkRanges.{most_scale, most_taken}
-use Rattle.core_runs.specs.CoreTables.{core_edges, core_table, ways_of, ordered_ways}
-use Rattle.core_runs.specs.Theorems.{IsReadOf}
+use Rattle.core_cuts.specs.CoreTables.{core_edges, core_table, ways_of, ordered_ways}
+use Rattle.core_cuts.specs.RunTheorems.{IsReadOf}
 
 -- a price, and a value for each candidate in their order, by unit of flow and times the part
 pub record Reading : Type 0 where

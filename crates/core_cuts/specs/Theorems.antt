@@ -9,7 +9,7 @@ use Rattle.hub_spec.specs.Ranges.{IsCutInRange}
 use Rattle.core_spec.specs.CoreCuts.{Way, IsCoreDual, MayBeMarked, IsCoreCut}
 use Rattle.core_spec.specs.MarkRanges.{IsWayBefore, IsMarkInRange}
 use Rattle.core_cuts.specs.Readings.{FoundDual, IsFound, IsNotFound}
-use Rattle.marked_cuts.specs.MarkedCuts.{MarkedCut}
+use Rattle.cut_model.specs.MarkedCuts.{MarkedCut}
 use Rattle.core_cuts.specs.FoundCuts.{IsCored, IsPlain}
 use Rattle.core_cuts.specs.Finding.{core_found, core_marked}
 

@@ -15,8 +15,8 @@ use crate::brought_duals::brought_dual;
 use crate::common_parts::divides;
 use crate::core_duals::CoreDual;
 use crate::unit_prices::MOST_UNITS;
+use cut_model::StatedCut;
 use hub_model::{Instance, MOST_COST};
-use stated_cuts::StatedCut;
 use std::alloc::{AllocError, Global};
 
 /// What the part of a cut divides.

@@ -17,7 +17,7 @@ use crate::readings::least_reading;
 use crate::table_proofs::TableProof;
 use crate::unit_prices::UnitPrices;
 use crate::ways::Ways;
-use core_marks::DualProof;
+use cut_model::DualProof;
 use frac_rows::Ended;
 use hub_model::Instance;
 use plain_rows::PlainRows;

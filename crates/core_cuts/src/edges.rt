@@ -5,7 +5,7 @@ ghost use Rattle.hub_spec.specs.Problem.{flow};
 ghost use Rattle.hub_spec.specs.Edges.{least_cost};
 ghost use Rattle.hub_spec.specs.Plans.{IsHubSet};
 ghost use Rattle.core_spec.specs.CoreCuts.{pair_cost};
-ghost use Rattle.core_runs.specs.CoreTables.{is_needed, edge_right};
+ghost use Rattle.core_cuts.specs.CoreTables.{is_needed, edge_right};
 ghost use Rattle.core_cuts.specs.Bodies.{most_unit};
 
 use hub_model::Instance;

@@ -14,9 +14,8 @@ use crate::brought_cuts::fit_cut;
 use crate::common_parts::common_part;
 use crate::core_duals::CoreDual;
 use crate::found_duals::{found_duals, may_be_marked, proofs_of};
-use core_marks::Mark;
+use cut_model::{Mark, MarkedCut};
 use hub_model::Instance;
-use marked_cuts::MarkedCut;
 use plan_model::HubSet;
 use std::alloc::{AllocError, Global};
 

@@ -10,7 +10,7 @@ ghost use Rattle.core_cuts.specs.Readings.{IsFound, IsNotFound};
 
 use crate::ahead::{next_dual, nothing_ahead};
 use crate::core_duals::CoreDual;
-use core_marks::DualProof;
+use cut_model::DualProof;
 use hub_model::Instance;
 use plan_model::HubSet;
 use std::alloc::{AllocError, Global};

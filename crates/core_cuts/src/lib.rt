@@ -25,6 +25,7 @@ mod mirrors;
 mod problems;
 mod ratios;
 mod readings;
+mod runs;
 mod table_proofs;
 mod tables;
 mod taken_ways;
@@ -35,6 +36,10 @@ ghost use Rattle.core_cuts.specs.Theorems.{FoundIsCore, FoundIsOne, FoundOrNot, 
 
 pub use core_duals::{CoreDual, core_dual};
 pub use found_cuts::core_cut;
+pub use runs::{
+    balanced_is_core, best_is_balanced, best_is_cover, core_is_narrow, ordered_covers,
+    reading_is_core, run_combines,
+};
 
 /// What is found is feasible, and a core dual by its proof.
 pub fn found_is_core()

@@ -3,7 +3,7 @@
 ghost use Rattle.std.specs.Prelude.{◌≡◌, ◌<◌, IfOk};
 ghost use Rattle.hub_spec.specs.Plans.{IsHubSet};
 ghost use Rattle.core_spec.specs.CoreCuts.{MayBeMarked};
-ghost use Rattle.core_runs.specs.CoreTables.{core_edges, core_rights, core_table};
+ghost use Rattle.core_cuts.specs.CoreTables.{core_edges, core_rights, core_table};
 
 use crate::tables::core_rows;
 use hub_model::Instance;

@@ -8,7 +8,7 @@ ghost use Rattle.core_cuts.specs.Readings.{scale_at, IsShortProof};
 ghost use Rattle.core_cuts.specs.Bodies.{table_proof};
 
 use crate::taken_ways::{ordered_ways, taken_ways};
-use core_marks::DualProof;
+use cut_model::DualProof;
 use plain_rows::PlainRows;
 use std::alloc::{AllocError, Global};
 use std::marker::Model;

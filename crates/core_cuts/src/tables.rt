@@ -2,7 +2,7 @@
 
 ghost use Rattle.std.specs.Prelude.{◌≡◌, ◌+◌, ◌*◌, ◌^◌, ◌<◌, ◌≤◌, ◌++◌, ℕ, List, [], ◌∷◌, length, map, flat_map, pos, ◌-ℤ◌, unsigned_abs, All, IfOk, OnOk};
 ghost use Rattle.frac_rows.specs.Starts.{start};
-ghost use Rattle.core_runs.specs.CoreTables.{through, counts, price_column, value_column};
+ghost use Rattle.core_cuts.specs.CoreTables.{through, counts, price_column, value_column};
 ghost use Rattle.core_cuts.specs.Bodies.{most_unit, way_row, objective_row};
 
 use plain_rows::PlainRows;

@@ -2,7 +2,7 @@
 
 ghost use Rattle.std.specs.Prelude.{◌≡◌, ◌+◌, ◌≤◌, ◌++◌, ◌∷◌, [], length, drop, filter, IfOk, OnOk};
 ghost use Rattle.frac_rows.specs.Rows.{objective};
-ghost use Rattle.core_runs.specs.CoreTables.{ways_of, begins_at, ordered_ways};
+ghost use Rattle.core_cuts.specs.CoreTables.{ways_of, begins_at, ordered_ways};
 ghost use Rattle.core_cuts.specs.Bodies.{is_taken};
 
 use plain_rows::PlainRows;
@@ -39,7 +39,7 @@ fn add_taken(way: (u32, u32, u64), ways: &mut Vec<(u32, u32, u64)>) -> Result<()
 }
 
 /// Those that are taken, in the order of a proof line.
-#[tactic(auto, unfolding(core_runs::specs::CoreTables::ordered_ways))]
+#[tactic(auto, unfolding(crate::specs::CoreTables::ordered_ways))]
 pub(crate) fn ordered_ways(
     alloc: Global,
     nodes: &[u32],

@@ -2,7 +2,7 @@
 
 ghost use Rattle.std.specs.Prelude.{◌≡◌, ◌↔◌, ◌<◌, ◌≤◌, ◌++◌, ◌∷◌, [], None, map, filter, pos, All, IfOk, OnOk, IsTrue};
 ghost use Rattle.core_spec.specs.CoreCuts.{pair_cost};
-ghost use Rattle.core_runs.specs.CoreTables.{is_needed};
+ghost use Rattle.core_cuts.specs.CoreTables.{is_needed};
 ghost use Rattle.core_cuts.specs.Ahead.{AreCosts, AreWays};
 ghost use Rattle.core_cuts.specs.Bodies.{most_unit};
 

@@ -4,10 +4,10 @@ use Rattle.std.specs.Prelude.{bytes_eq}
 use Rattle.std.proofs.lemmas.Slice.Eq.{bytes_eq-Decides}
 use Rattle.std.proofs.lemmas.List.{length-map, get_or-map}
 use Rattle.std.proofs.lemmas.List.Elements.{All-get_or}
-use Rattle.kept_cuts.specs.Kept.{Kept, by_set, kept_of, kept_set}
-use Rattle.kept_cuts.specs.declared.kept.KeptCut.{KeptCut}
+use Rattle.cut_pool.specs.Kept.{Kept, by_set, kept_of, kept_set}
+use Rattle.cut_pool.specs.declared.kept.KeptCut.{KeptCut}
 use Rattle.cut_pool.specs.Entries.{Entry, entry_at, IsNumber, Lacks}
-use Rattle.cut_pool.specs.Kept.{sets_of, entries_of}
+use Rattle.cut_pool.specs.PoolCuts.{sets_of, entries_of}
 
 -- the lists are as long as one another
 pub record AreBeside (ks : List Kept) (ts : List ℕ) (ls : List (List ℕ)) : Type 0 where

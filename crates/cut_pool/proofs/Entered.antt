@@ -2,10 +2,10 @@
 use Rattle.std.proofs.Common.{⊎_elim, ◌≡◌, ◌≢◌, ℕ, ◌+◌, ◌-◌, ◌<◌, List, [], Some, None, length, map, get_or, sym, ap, ◌∙◌, Vec, Global, arith}
 use Rattle.std.proofs.lemmas.List.{length-map, get_or-map}
 use Rattle.std.proofs.lemmas.Bool.{cases_lt}
-use Rattle.kept_cuts.specs.Kept.{kept_of, kept_set}
-use Rattle.kept_cuts.specs.declared.kept.KeptCut.{KeptCut}
+use Rattle.cut_pool.specs.Kept.{kept_of, kept_set}
+use Rattle.cut_pool.specs.declared.kept.KeptCut.{KeptCut}
 use Rattle.cut_pool.specs.Entries.{entry_at, IsNumber, IsNumberOf, Lacks}
-use Rattle.cut_pool.specs.Kept.{sets_of}
+use Rattle.cut_pool.specs.PoolCuts.{sets_of}
 use Rattle.cut_pool.specs.Ordered.{IsSplitAt, set_at}
 use Rattle.cut_pool.specs.PoolParts.{state_of, IsPool}
 use Rattle.cut_pool.specs.declared.pool.Pool.TheInside.{Inside}

@@ -1,11 +1,11 @@
 -- A pool after a cut was added.
 use Rattle.std.proofs.Common.{◌≡◌, ◌≢◌, ℕ, ◌+◌, ◌≤◌, min, List, [], ◌∷◌, ◌++◌, Option, Some, false, Result, Ok, Err, is_err, OnOk, length, map, All, sym, ap, subst, ◌∙◌, arith}
 use Rattle.std.proofs.lemmas.List.{length_push, map_push}
-use Rattle.kept_cuts.specs.Kept.{Kept, KeptList, kept_of, kept_set}
-use Rattle.kept_cuts.specs.declared.kept.KeptCut.{KeptCut}
-use Rattle.kept_cuts.specs.StoreParts.{free}
+use Rattle.cut_pool.specs.Kept.{Kept, KeptList, kept_of, kept_set}
+use Rattle.cut_pool.specs.declared.kept.KeptCut.{KeptCut}
+use Rattle.cut_pool.specs.StoreParts.{free}
 use Rattle.cut_pool.specs.Entries.{Entry, most_stated, Lacks}
-use Rattle.cut_pool.specs.Kept.{most_kept, sets_of, entries_of, AreDistinct}
+use Rattle.cut_pool.specs.PoolCuts.{most_kept, sets_of, entries_of, AreDistinct}
 use Rattle.cut_pool.specs.Ordered.{IsIndex}
 use Rattle.cut_pool.specs.Shorts.{AreShortIfKept}
 use Rattle.cut_pool.specs.Units.{AreUnitsIfKept}

@@ -1,9 +1,9 @@
 -- The cut to which an index leads.
 use Rattle.std.proofs.Common.{◌≡◌, ℕ, ◌<◌, List, Some, None, true, is_some, length, map, get_or, ap, sym, ◌∙◌, arith}
 use Rattle.std.proofs.lemmas.List.{length-map}
-use Rattle.kept_cuts.specs.Kept.{Kept, by_values, by_set, cored, given, kept_of, kept_set}
-use Rattle.kept_cuts.specs.declared.kept.KeptCut.{KeptCut}
-use Rattle.cut_pool.specs.Kept.{IsOfSet, sets_of}
+use Rattle.cut_pool.specs.Kept.{Kept, by_values, by_set, cored, given, kept_of, kept_set}
+use Rattle.cut_pool.specs.declared.kept.KeptCut.{KeptCut}
+use Rattle.cut_pool.specs.PoolCuts.{IsOfSet, sets_of}
 use Rattle.cut_pool.specs.Ordered.{IsIndex}
 use Rattle.cut_pool.proofs.Columns.{set_there}
 use Rattle.cut_pool.proofs.Indexes.{has_below, place_has}

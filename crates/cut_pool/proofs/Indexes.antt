@@ -9,7 +9,7 @@ use Rattle.std.proofs.lemmas.List.{get_or_append_left, get_or_push, get_or_past,
 use Rattle.std.proofs.lemmas.List.Edits.{length-insert, get_or-insert_below, get_or-insert_at, get_or-insert_above}
 use Rattle.std.proofs.lemmas.List.Elements.{All-get_or, All-cons, All-weaker, Contains-append_right}
 use Rattle.std.proofs.lemmas.List.Sorted.{IsPermutation-insert, All-permutation, Contains-permutation}
-use Rattle.cut_pool.specs.Kept.{AreDistinct}
+use Rattle.cut_pool.specs.PoolCuts.{AreDistinct}
 use Rattle.cut_pool.specs.Ordered.{Precedes, set_or_none, HasSet, set_at, IsIndex, IsSplitAt}
 use Rattle.cut_pool.proofs.SetOrder.{precedes_trans, precedes_itself, precedes_other, not_before}
 

@@ -1,3 +1,8 @@
+pub mod FirstCuts
+pub mod KeptCutLaws
+pub mod Versions
+pub mod Packing
+pub mod NodeLoads
 pub mod SetOrder
 pub mod Indexes
 pub mod Columns

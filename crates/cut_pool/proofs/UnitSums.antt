@@ -5,7 +5,7 @@ use Rattle.std.proofs.Math.Nat.{div-one}
 use Rattle.std.proofs.lemmas.Bool.Decides.{nat_tests}
 use Rattle.std.proofs.lemmas.List.{map_push}
 use Rattle.std.proofs.lemmas.List.Elements.{All-push, All-cons, All-head, All-tail}
-use Rattle.kept_cuts.specs.Kept.{Kept, by_values, by_set, cored, given, kept_part, KeptList}
+use Rattle.cut_pool.specs.Kept.{Kept, by_values, by_set, cored, given, kept_part, KeptList}
 use Rattle.cut_pool.specs.Entries.{Entry, entry_part, unit_totals, unit_loads, most_unit, kept_most, most_stated}
 use Rattle.cut_pool.specs.Shorts.{unit_row}
 use Rattle.cut_pool.specs.Stated.{IsStated}

@@ -1,8 +1,8 @@
 -- The cuts that a search keeps, by number.
 use Rattle.std.specs.Prelude.{◌≡◌, ◌≢◌, ℕ, ◌-◌, ◌/◌, ◌≤◌, max, List, [], ◌∷◌, length, map, slice_index_or, All, Some}
 use Rattle.hub_spec.specs.Cuts.{Cut, total}
-use Rattle.marked_cuts.specs.MarkedCuts.{MarkedCut}
-use Rattle.kept_cuts.specs.Kept.{Kept, by_set, cored, given, kept_set, kept_part, node_loads}
+use Rattle.cut_model.specs.MarkedCuts.{MarkedCut}
+use Rattle.cut_pool.specs.Kept.{Kept, by_set, cored, given, kept_set, kept_part, node_loads}
 
 -- what is kept of a separated cut before it has a number: its hub set, its total and its load of each node
 pub record Sums : Type 0 where

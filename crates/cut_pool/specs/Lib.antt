@@ -1,5 +1,12 @@
-pub mod Entries
 pub mod Kept
+pub mod StoreParts
+pub mod Items
+pub mod Packed
+pub mod PackedParts
+pub mod Findings
+pub mod Theorems
+pub mod Entries
+pub mod PoolCuts
 pub mod Ordered
 pub mod PoolParts
 pub mod Shorts

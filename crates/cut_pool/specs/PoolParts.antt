@@ -1,8 +1,8 @@
 -- The fields of a pool.
 use Rattle.std.specs.Prelude.{◌≡◌, ℕ, ◌-◌, ◌≤◌, min, length}
-use Rattle.kept_cuts.specs.StoreParts.{free}
+use Rattle.cut_pool.specs.StoreParts.{free}
 use Rattle.cut_pool.specs.Entries.{PoolState, most_stated}
-use Rattle.cut_pool.specs.Kept.{most_kept, sets_of, entries_of, AreDistinct}
+use Rattle.cut_pool.specs.PoolCuts.{most_kept, sets_of, entries_of, AreDistinct}
 use Rattle.cut_pool.specs.Ordered.{IsIndex}
 use Rattle.cut_pool.specs.Shorts.{AreShortIfKept}
 use Rattle.cut_pool.specs.Units.{AreUnitsIfKept}

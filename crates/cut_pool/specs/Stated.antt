@@ -1,6 +1,6 @@
 -- Cuts that are kept with their duals.
 use Rattle.std.specs.Prelude.{ℕ, List}
-use Rattle.kept_cuts.specs.Kept.{Kept, cored, given}
+use Rattle.cut_pool.specs.Kept.{Kept, cored, given}
 
 -- a core cut or a given one
 abbrev pub IsStated : Kept → Type 0

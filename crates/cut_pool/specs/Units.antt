@@ -1,6 +1,6 @@
 -- Totals and loads of cuts for one unit of their parts, kept beside the whole ones.
 use Rattle.std.specs.Prelude.{◌≡◌, ◌≢◌, ℕ, List, [], ◌∷◌, ◌++◌, Option, Some, None, unwrap_or, All}
-use Rattle.kept_cuts.specs.Kept.{KeptList}
+use Rattle.cut_pool.specs.Kept.{KeptList}
 use Rattle.cut_pool.specs.Entries.{Entry, entry_part, unit_totals, unit_loads}
 
 -- a total for each cut, and a load of each node

@@ -1,24 +1,32 @@
-//! The cuts that a search keeps, each under its number and found by its hub set.
+//! The cuts that a search keeps, and what it found with them.
 //!
-//! `CutSums` is what is kept of a separated cut: its hub set, its total and its load of each node. `Pool` numbers cuts from
-//! 1 in the order in which they are added, and `Pool::find` gives the number of a hub set's cut by a binary search. Its cuts
-//! stand in a `CutStore`: a separated one as its hub set and its order, with no duals, and a core cut or one that was given
-//! with its duals; `Pool::into_cuts` gives them to a finding. Totals and loads are `u128` in 10^-12. Nodes are
-//! `u32`, counted from 0.
-//!
-//! A core cut and a given one have parts of their own. Once one is above 1, the pool also keeps totals and loads for one
-//! unit of each cut's part. Beside them it keeps `ShortLoads`, where it can: these loads in 32 bits, with a row for each
-//! node, for whoever reads the loads of one node in all cuts and needs few digits of them.
+//! A [`KeptCut`] is what the duals of a cut can be made from anew, values of the candidates or a hub set with an order of the
+//! others; or it is a core cut with its mark, or a cut that was given, with all of their duals. A [`CutStore`] has them side by
+//! side with the part, the total and the loads of each, and says how many more it has room for. [`KeptCuts`] numbers them
+//! from 1, and leaves the room out of sight. [`PackedValues`] are values of which those above 0 alone take memory. A [`Found`]
+//! is a plan with the cuts and the tree that bound what any plan costs. Costs are in 10^-12; nodes are `u32`, counted from 0.
 #![tactic(auto)]
 
 mod cut_sums;
+mod found;
+mod kept;
+mod laws;
+mod packed;
 mod places;
 mod pool;
 mod set_cuts;
 mod short_loads;
 mod stated_sums;
+mod store;
 mod unit_columns;
 
 pub use cut_sums::CutSums;
+pub use found::Found;
+pub use kept::{KeptCut, KeptCuts};
+pub use laws::{
+    kept_cut_is_cut, kept_cut_is_first, kept_cut_is_in_range, kept_mark_is_mark, kept_part_is_part,
+};
+pub use packed::PackedValues;
 pub use pool::{Pool, Refused};
 pub use short_loads::ShortLoads;
+pub use store::CutStore;

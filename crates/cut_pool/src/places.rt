@@ -1,13 +1,13 @@
 //! Hub sets in order.
 
 ghost use Rattle.std.specs.Prelude.{◌≡◌, ◌≢◌, ℕ, ◌+◌, ◌^◌, ◌<◌, ◌≤◌, List, [], ◌∷◌, ◌++◌, Some, length, map, All};
-ghost use Rattle.kept_cuts.specs.Kept.{kept_of, kept_set};
-ghost use Rattle.kept_cuts.specs.StoreParts.{free};
-ghost use Rattle.cut_pool.specs.Kept.{sets_of};
+ghost use Rattle.cut_pool.specs.Kept.{kept_of, kept_set};
+ghost use Rattle.cut_pool.specs.StoreParts.{free};
+ghost use Rattle.cut_pool.specs.PoolCuts.{sets_of};
 ghost use Rattle.cut_pool.specs.Ordered.{IsIndex, IsSplitAt};
 
+use crate::KeptCut;
 use crate::set_cuts::{hubs_if_any, hubs_of};
-use kept_cuts::KeptCut;
 
 /// How many hub sets of the cuts, as the index has them, come before these hubs.
 pub(crate) fn place_of(cuts: &[KeptCut], by_set: &[u32], hubs: &[u32]) -> usize

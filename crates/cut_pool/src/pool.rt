@@ -3,7 +3,7 @@
 ghost use Rattle.std.specs.Prelude.{◌≡◌, ℕ, ◌+◌, ◌<◌, ◌≤◌, List, [], ◌∷◌, ◌++◌, Some, length, map, slice_index, IfSome, IfNone, IsOk, IfOk, OnOk, OnErr, IfErr};
 ghost use Rattle.hub_spec.specs.Limits.{most_nodes};
 ghost use Rattle.hub_spec.specs.Ranges.{IsCutInRange};
-ghost use Rattle.kept_cuts.specs.Kept.{kept_of, kept_set, kept_part};
+ghost use Rattle.cut_pool.specs.Kept.{kept_of, kept_set, kept_part};
 ghost use Rattle.cut_pool.specs.Entries.{entry_of, core_entry, given_entry, entry_at, entry_part, unit_totals, unit_loads, most_stated, IsNumber, IsNumberOf, Lacks};
 ghost use Rattle.cut_pool.specs.Shorts.{AreShortLoads};
 ghost use Rattle.cut_pool.specs.Stated.{IsStated};
@@ -14,11 +14,9 @@ use crate::set_cuts::hubs_of;
 use crate::short_loads::{reserve_kept, with_cut};
 use crate::stated_sums::StatedSums;
 use crate::unit_columns::{UnitColumns, enter};
-use crate::{CutSums, ShortLoads};
-use kept_cuts::{CutStore, KeptCut, KeptCuts};
-use marked_cuts::MarkedCut;
+use crate::{CutStore, CutSums, KeptCut, KeptCuts, ShortLoads};
+use cut_model::{MarkedCut, StatedCut};
 use plan_model::HubSet;
-use stated_cuts::StatedCut;
 use std::alloc::{AllocError, Global};
 use std::marker::Model;
 
@@ -191,20 +189,24 @@ impl Pool {
     /// Adds a cut that was given with its duals, between `size` nodes, and gives its number, the next one. No hub set finds
     /// it.
     ///
-    /// The answer is `AllocError` where memory runs out, or where the pool has all the cuts that it can number. Its cuts stay
-    /// as they were then, and the given one is dropped.
-    pub fn add_given(&mut self, alloc: Global, size: u32, cut: StatedCut) -> Result<u64, AllocError>
+    /// The cut comes back where memory is wanting, or where the pool has all the cuts that it can number, and its cuts stay
+    /// as they were.
+    pub fn add_given(&mut self, alloc: Global, size: u32, cut: StatedCut) -> Result<u64, StatedCut>
         requires size { size ≤ most_nodes }
         requires duals { IsCutInRange size cut }
         ensures number { IfOk result (λ c. c ≡ length self.old.entries + 1) }
         ensures added { OnOk result (self.new.entries ≡ self.old.entries ++ given_entry size cut ∷ []) }
         ensures spare { OnOk result (self.old.spare ≤ self.new.spare + 1) }
         ensures refused { OnErr result (self.new.entries ≡ self.old.entries) }
+        ensures given_back { IfErr result (λ back. back ≡ cut) }
     {
-        let sums = StatedSums::of(alloc, size, &cut)?;
+        let Ok(sums) = StatedSums::of(alloc, size, &cut) else {
+            return Err(cut);
+        };
         match self.add_stated(alloc, KeptCut::Given(cut), sums) {
             Ok(number) => Ok(number),
-            Err(_) => Err(AllocError),
+            Err(KeptCut::Given(cut)) => Err(cut),
+            Err(_) => unreachable!(),
         }
     }
 

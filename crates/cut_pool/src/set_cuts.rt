@@ -1,10 +1,10 @@
 //! The hub set of a kept cut.
 
 ghost use Rattle.std.specs.Prelude.{◌≡◌, Some, option_map};
-ghost use Rattle.kept_cuts.specs.Kept.{kept_of, kept_set};
-ghost use Rattle.cut_pool.specs.Kept.{IsOfSet};
+ghost use Rattle.cut_pool.specs.Kept.{kept_of, kept_set};
+ghost use Rattle.cut_pool.specs.PoolCuts.{IsOfSet};
 
-use kept_cuts::KeptCut;
+use crate::KeptCut;
 
 /// The hubs of the set of a cut, if it is of one.
 pub(crate) fn hubs_if_any(cut: &KeptCut) -> Option<&[u32]>

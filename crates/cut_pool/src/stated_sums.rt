@@ -4,10 +4,10 @@ ghost use Rattle.std.specs.Prelude.{◌≡◌, ◌≤◌, IfOk};
 ghost use Rattle.hub_spec.specs.Cuts.{total};
 ghost use Rattle.hub_spec.specs.Limits.{most_nodes};
 ghost use Rattle.hub_spec.specs.Ranges.{IsCutInRange};
-ghost use Rattle.kept_cuts.specs.Kept.{node_loads};
+ghost use Rattle.cut_pool.specs.Kept.{node_loads};
 
 use crate::unit_columns::{most_per_unit, per_unit};
-use stated_cuts::StatedCut;
+use cut_model::StatedCut;
 use std::alloc::{AllocError, Global};
 use std::marker::Model;
 

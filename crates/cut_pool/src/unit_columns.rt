@@ -4,7 +4,7 @@ ghost use Rattle.std.specs.Prelude.{◌≡◌, ℕ, ◌/◌, ◌≤◌, false, N
 ghost use Rattle.cut_pool.specs.Entries.{most_unit};
 ghost use Rattle.cut_pool.specs.Units.{with_unit, whole_of, IsEntered};
 
-use kept_cuts::CutStore;
+use crate::CutStore;
 use std::alloc::{AllocError, Global};
 use std::marker::Model;
 

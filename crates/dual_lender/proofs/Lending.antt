@@ -10,8 +10,8 @@ use Rattle.hub_spec.specs.Separation.{set_cut}
 use Rattle.hub_spec.proofs.Commodities.{commodity_index, commodity_at, commodity_at_index, length_commodities}
 use Rattle.hub_spec.proofs.Limits.{few_candidates}
 use Rattle.value_cuts.specs.Values.{value_cut}
-use Rattle.kept_cuts.specs.Kept.{Kept, by_values, by_set, cored, given, kept_cut, kept_part, IsKeptFor}
-use Rattle.kept_cuts.proofs.KeptCutLaws.{kept_in_range}
+use Rattle.cut_pool.specs.Kept.{Kept, by_values, by_set, cored, given, kept_cut, kept_part, IsKeptFor}
+use Rattle.cut_pool.proofs.KeptCutLaws.{kept_in_range}
 use Rattle.dual_lender.specs.Lenders.{no_dual, stated_dual, kept_dual, LenderState, HasLegsOf, HasRowOf, IsReady, HasDuals, made_dual}
 use Rattle.dual_lender.specs.LenderParts.{lender_with}
 

@@ -6,8 +6,8 @@ use Rattle.hub_spec.specs.Separation.{minimal_dual}
 use Rattle.value_cuts.specs.Values.{ValueRows, row_for, value_dual}
 use Rattle.value_cuts.specs.Prices.{ArePricesFrom}
 use Rattle.pareto_cuts.specs.Scratches.{ScratchParts, IsReadyFor, HasDualsFrom}
-use Rattle.kept_cuts.specs.Kept.{Kept, by_values, by_set, cored, given}
-use Rattle.kept_cuts.specs.Packed.{AreRowsFrom}
+use Rattle.cut_pool.specs.Kept.{Kept, by_values, by_set, cored, given}
+use Rattle.cut_pool.specs.Packed.{AreRowsFrom}
 
 -- the dual of the commodity by its row of the values
 abbrev pub commodity_dual : Problem → ValueRows → ℕ × ℕ → Prices

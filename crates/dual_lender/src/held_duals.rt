@@ -8,7 +8,7 @@ ghost use Rattle.plan_model.specs.Prices.{natural_values, signed_values, AreSign
 
 use hub_model::signed;
 use plan_model::list_value;
-use stated_cuts::StatedDual;
+use cut_model::StatedDual;
 use std::alloc::{AllocError, Global};
 use std::marker::Model;
 

@@ -5,16 +5,16 @@ ghost use Rattle.hub_spec.specs.Problem.{IsProblem};
 ghost use Rattle.hub_spec.specs.Ranges.{IsCutInRange};
 ghost use Rattle.hub_spec.specs.Separation.{AreListedValues};
 ghost use Rattle.plan_model.specs.Prices.{signed_values};
-ghost use Rattle.kept_cuts.specs.Kept.{kept_of, IsKeptFor};
+ghost use Rattle.cut_pool.specs.Kept.{kept_of, IsKeptFor};
 ghost use Rattle.dual_lender.specs.Lenders.{stated_dual, kept_dual, IsLenderFor, IsReady, HasDuals, made_dual};
 ghost use Rattle.dual_lender.specs.LenderParts.{lender_with};
 
 use crate::held_duals::HeldDual;
 use crate::value_rooms::ValueRoom;
 use hub_model::Instance;
-use kept_cuts::KeptCut;
+use cut_pool::KeptCut;
 use pareto_cuts::Scratch;
-use stated_cuts::StatedCut;
+use cut_model::StatedCut;
 use std::alloc::{AllocError, Global};
 use std::marker::Model;
 

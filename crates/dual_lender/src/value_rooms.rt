@@ -5,11 +5,11 @@ ghost use Rattle.hub_spec.specs.Separation.{AreListedValues};
 ghost use Rattle.plan_model.specs.Prices.{signed_values};
 ghost use Rattle.value_cuts.specs.Values.{AreValuesFor};
 ghost use Rattle.value_cuts.specs.Prices.{ArePricesFrom};
-ghost use Rattle.kept_cuts.specs.Packed.{row_of, AreRowsFrom};
+ghost use Rattle.cut_pool.specs.Packed.{row_of, AreRowsFrom};
 ghost use Rattle.dual_lender.specs.Lenders.{commodity_dual, HasPricesFrom};
 
 use hub_model::Instance;
-use kept_cuts::PackedValues;
+use cut_pool::PackedValues;
 use std::alloc::{AllocError, Global};
 use std::marker::Model;
 use value_cuts::{CandidateLegs, DualScratch, PriceScratch, price};
@@ -27,7 +27,7 @@ pub(crate) struct ValueRoom<'a> {
 
 impl<'a> Model for ValueRoom<'a> {
     ghost use Rattle.value_cuts.specs.Prices.{ArePricesFrom};
-    ghost use Rattle.kept_cuts.specs.Packed.{row_of, AreRowsFrom};
+    ghost use Rattle.cut_pool.specs.Packed.{row_of, AreRowsFrom};
     ghost use Rattle.dual_lender.specs.Lenders.{RoomState};
     ghost use Rattle.dual_lender.specs.LenderParts.{IsValueRoom};
 
@@ -40,7 +40,7 @@ impl<'a> Model for ValueRoom<'a> {
 
 impl<'a> ValueRoom<'a> {
     /// Room for the instance.
-    #[tactic(auto, using(kept_cuts::proofs::Packing::small_cells))]
+    #[tactic(auto, using(cut_pool::proofs::Packing::small_cells))]
     pub(crate) fn new(alloc: Global, instance: &'a Instance) -> Result<ValueRoom<'a>, AllocError>
         ensures { IfOk result (λ r. r.problem ≡ instance.now) }
     {

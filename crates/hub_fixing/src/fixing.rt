@@ -1,7 +1,7 @@
 //! The free candidates of which a side stays.
 
-ghost use Rattle.std.specs.Prelude.{◌≡◌, ◌^◌, ◌≤◌, false, length, IfOk};
-ghost use Rattle.leaf_bound.specs.Numbers.{AreWeightingNumbers, IsBranchBelow, weighting_of};
+ghost use Rattle.std.specs.Prelude.{◌≡◌, ◌^◌, ◌≤◌, false, IfOk};
+ghost use Rattle.leaf_bound.specs.Numbers.{AreWeightingNumbers, IsBranchWithin, weighting_of};
 ghost use Rattle.hub_fixing.specs.Fixing.{closes_by, fixings};
 
 use crate::sides::{Side, side_by};
@@ -23,7 +23,7 @@ pub fn fix(
     target: u128,
 ) -> Result<Vec<(u32, Side)>, AllocError>
     requires numbers { AreWeightingNumbers weighting.now }
-    requires nodes { IsBranchBelow (length weighting.now.fixed.now) branch.now }
+    requires nodes { IsBranchWithin weighting.now branch.now }
     requires target { target ≤ 10 ^ 30 }
     requires not_closed { closes_by (weighting_of weighting.now) target branch.now ≡ false }
     ensures { IfOk result (λ sides. sides.items ≡ fixings (weighting_of weighting.now) target branch.now) }

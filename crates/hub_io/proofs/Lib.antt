@@ -1,2 +1,3 @@
 mod Files
 pub mod Through
+pub mod Names

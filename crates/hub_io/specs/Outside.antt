@@ -1,5 +1,5 @@
 -- What the objects outside the program hold, take and fail at.
-use Rattle.std.specs.Prelude.{◌≡◌, ◌<◌, ◌≤◌, ℕ, ◌+◌, ◌-◌, ◌^◌, min, List, ◌++◌, length, drop, ⊤, Option, None, Some, IsSome, Result, OnOk, OnErr}
+use Rattle.std.specs.Prelude.{◌≡◌, ◌<◌, ◌≤◌, ℕ, ◌+◌, ◌-◌, ◌^◌, min, List, [], ◌∷◌, ◌++◌, length, drop, All, ⊤, Option, None, Some, IsSome, option_map, Result, OnOk, OnErr}
 use Rattle.std.specs.Io.KnownBytes.{Appends}
 
 -- the bytes under each name, or none where no file has it
@@ -39,6 +39,16 @@ LeavesRest (Some files) left name limit = (bytes : List ℕ) × (files name ≡ 
 abbrev pub TellsOf : Option Files → List ℕ → Type 0
 TellsOf None name = ⊥
 TellsOf (Some files) name = IsSome (files name)
+
+-- the names that were begun, and this one
+abbrev pub with_name : List ℕ → Option (List (List ℕ)) → Option (List (List ℕ))
+with_name name = option_map (λ names. names ++ name ∷ [])
+
+-- only names of which this holds were begun besides those that were begun before
+pub record BeginsOnly (may : List ℕ → Type 0) (before now : Option (List (List ℕ))) : Type 0 where
+  pub names : List (List ℕ)
+  pub more : now ≡ option_map (λ begun. begun ++ names) before
+  pub each : All may names
 
 -- a front of the text was appended
 abbrev pub AppendsFront : Option (List ℕ) → Option (List ℕ) → List ℕ → Type 0

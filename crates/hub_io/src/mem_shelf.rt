@@ -33,7 +33,7 @@ struct Place {
     byte: usize,
 }
 
-/// Files in memory: of two with one name the first is read. It tells all that it holds.
+/// Files in memory: of two with one name the first is read. It tells all that it holds, and no names that were begun.
 ///
 /// Calls of `begin` and `read` are counted together from 1, and those in a list fail and do nothing
 /// else. Besides them, `begin` fails at a name that isn't held, and `read` before anything was begun.
@@ -141,6 +141,8 @@ impl Shelf for MemShelf {
     ghost held = { λ s. Some (held_bytes s.files.items) };
 
     ghost left = { λ s. left_bytes s.files.items s.begun };
+
+    ghost names = { λ _. None };
 
     ghost faults = { λ s. s.faults };
 

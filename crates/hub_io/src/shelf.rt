@@ -2,7 +2,7 @@
 ghost use Rattle.std.specs.Prelude.{◌≡◌, ◌<◌, ℕ, List, Option, None, length, OnOk, OnErr, IsSome, IsErr};
 ghost use Rattle.std.specs.Io.{ReadsAtMost};
 ghost use Rattle.std.specs.Io.KnownBytes.{ReadConsumes};
-ghost use Rattle.hub_io.specs.Outside.{Files, HasCause, Starts, TellsOf};
+ghost use Rattle.hub_io.specs.Outside.{Files, HasCause, Starts, TellsOf, with_name};
 
 /// A call on an object outside the program failed. What failed is not told.
 #[derive(Clone, Copy, Debug, PartialEq, Eq)]
@@ -19,6 +19,9 @@ pub trait Shelf {
     /// holds has none exactly until a file is begun.
     ghost left: { Self → Option (List ℕ) };
 
+    /// The names for which `begin` was called, in order, where the shelf tells.
+    ghost names: { Self → Option (List (List ℕ)) };
+
     /// How often the shelf has failed.
     ghost faults: { Self → ℕ };
 
@@ -30,6 +33,7 @@ pub trait Shelf {
         ensures starts { OnOk result (Starts (held self.old) name.now (left self.new)) }
         ensures cause { HasCause (faults self.old) (faults self.new) result }
         ensures same { held self.new ≡ held self.old }
+        ensures begun { names self.new ≡ with_name name.now (names self.old) }
         ensures stays_sound { sound self.old → sound self.new }
         ensures sound_begins { sound self.old → TellsOf (held self.old) name.now → OnErr result ⊥ };
 
@@ -42,6 +46,7 @@ pub trait Shelf {
         ensures unbegun { IsSome (held self.old) → left self.old ≡ None → IsErr result }
         ensures cause { HasCause (faults self.old) (faults self.new) result }
         ensures same { held self.new ≡ held self.old }
+        ensures same_names { names self.new ≡ names self.old }
         ensures stays_sound { sound self.old → sound self.new }
         ensures sound_reads { sound self.old → IsSome (left self.old) → OnErr result ⊥ };
 }

@@ -1,6 +1,6 @@
 // A whole file, up to a limit.
 ghost use Rattle.std.specs.Prelude.{◌≡◌, ◌≤◌, length, IfOk};
-ghost use Rattle.hub_io.specs.Outside.{Holds, HoldsMore, LeavesRest, Rose, TellsOf};
+ghost use Rattle.hub_io.specs.Outside.{Holds, HoldsMore, LeavesRest, Rose, TellsOf, with_name};
 
 use crate::Shelf;
 use std::alloc::Global;
@@ -21,7 +21,7 @@ pub enum ReadEnd {
 
 /// The bytes of the file of that name, at most `limit` of them.
 ///
-/// Where no count of faults rose and memory sufficed, the answer is `TooLong` exactly where the file
+/// No other file is begun. Where no count of faults rose and memory sufficed, the answer is `TooLong` exactly where the file
 /// has more than `limit` bytes, and else its bytes: so the clauses say together.
 pub fn read_whole<S: Shelf>(
     alloc: Global,
@@ -37,6 +37,7 @@ pub fn read_whole<S: Shelf>(
     ensures sound { S.sound shelf.old → TellsOf (S.held shelf.old) name.now → result ≡ Err ReadEnd.ReadFault → ⊥ }
     ensures later { S.faults shelf.old ≤ S.faults shelf.new }
     ensures same { S.held shelf.new ≡ S.held shelf.old }
+    ensures begun { S.names shelf.new ≡ with_name name.now (S.names shelf.old) }
     ensures stays_sound { S.sound shelf.old → S.sound shelf.new }
 {
     if shelf.begin(name).is_err() {

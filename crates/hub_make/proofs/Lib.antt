@@ -5,3 +5,5 @@ mod WordPlaces
 mod Tokens
 mod Legal
 pub mod Reading
+mod DemoJoining
+mod Made

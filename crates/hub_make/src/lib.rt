@@ -6,15 +6,19 @@
 //! read as an instance, never as a fault.
 #![tactic(auto)]
 
+mod demo_lines;
+mod lines;
+mod making;
+mod numbers;
+mod rows;
+
 ghost use Rattle.std.specs.Prelude.{◌≡◌, ◌≤◌, IfOk};
 ghost use Rattle.hub_make.specs.Texts.{made_text};
 ghost use Rattle.hub_make.specs.Theorems.{MadeIsRead};
 
-mod lines;
-mod numbers;
-mod rows;
-
+pub use demo_lines::put_demo;
 use lines::{push_coordinates, push_flows, push_line};
+pub use making::made_instance;
 use rows::fixed_costs;
 use std::alloc::{AllocError, Global};
 

@@ -26,7 +26,7 @@ use Rattle.hub_top.specs.Answers.{Answers, TellsOlder, Demonstrates, found_statu
 use Rattle.hub_top.specs.Texts.{older_line}
 use Rattle.hub_top.proofs.OneReading.{same_bytes, one_instance}
 use Rattle.hub_top.proofs.OneTexts.{only_verdict}
-use Rattle.hub_top.proofs.OlderCertificates.{no_line_where_begun}
+use Rattle.hub_top.proofs.OlderCertificates.{no_line_where_begun, begun_may}
 use Rattle.hub_top.proofs.Networks.{plan_serves}
 
 -- ---- what solves
@@ -148,7 +148,7 @@ begun_solved held p (freely gap from) q text h = h.1
 begun_stopped : (held : Option Files) (p : Problem) (how : How) (q : Search) (text : List ℕ) → StopsBy held p how q text → MayBegin held p how
 begun_stopped held p (follow rule) q text h = inl refl
 begun_stopped held p (again older) q text h = inr (h.older, h.older_held)
-begun_stopped held p (freely gap from) q text h = h.1
+begun_stopped held p (freely gap from) q text h = begun_may held p (freely gap from) h.0.certificate.cost h.1
 
 -- and no line tells why the older certificate does not serve
 refused_begun : (files : Files) (x : Solving) (p : Problem) (text : List ℕ) → HoldsInstance files x.source p → MayBegin (Some files) p x.how

@@ -196,5 +196,5 @@ pub completeness : {S O E : Type 0} (held : S → Option Files) (faults : S → 
 completeness held faults sound old new out_taken out_faults err_taken err_faults out_old out_new err_old err_new asked status e may written =
     let Calm = Quiet faults old new out_faults out_old out_new err_faults err_old err_new in
     completeness_of asked (held old) (ShelfFails held faults sound old new) Calm e status may
-    (λ calm request failed. calm.0 failed.rose)
+    (λ calm request failed. calm.0 failed.2.rose)
     (λ calm. written_status out_taken out_faults err_taken err_faults out_old out_new err_old err_new status e written calm.1 calm.2)

@@ -6,17 +6,17 @@ use Rattle.hub_spec.specs.Problem.{Problem}
 use Rattle.cert_spec.specs.Verdicts.{Verdict, optimal, bounds, misread, too_long, certificate_limit}
 use Rattle.cert_spec.specs.Verdicts as verdicts
 use Rattle.hub_top.specs.declared.status.Status.{Status}
-use Rattle.hub_top.specs.declared.status.Status.TheVariants.{Done, Memory}
+use Rattle.hub_top.specs.declared.status.Status.TheVariants.{Done, Stopped, Memory}
 use Rattle.hub_words.specs.Requests.{Source, Solving, Request, solve, check}
 use Rattle.hub_top.specs.Texts.{optimal_line, verdict_text}
-use Rattle.hub_top.specs.Commands.{HoldsInstance, SolvesInstance, JudgesFile}
+use Rattle.hub_top.specs.Commands.{HoldsInstance, SolvesInstance, StopsInstance, JudgesFile}
 use Rattle.cert_checker.specs.Shows.{ProvesOptimal}
 use Rattle.hub_top.specs.Answers.{verdict_status, Answers}
 use Rattle.hub_top.specs.Meanings.{Answered, Means}
 use Rattle.hub_top.specs.Headline.{IsSameInstance, Headline}
 use Rattle.hub_top.specs.Completeness.{Completeness}
 use Rattle.hub_top.proofs.OneReading.{held_again}
-use Rattle.hub_top.proofs.OneTexts.{solving_why}
+use Rattle.hub_top.proofs.OneTexts.{solving_why, stopping_why}
 
 -- the answer to the request that was asked for
 answers_to : (asked : Option Request) (held : Option Files) (old new : Option (List ℕ)) (h : Answered asked held old new Done)
@@ -65,6 +65,17 @@ checked_of asked held quiet status complete before files s t certificate text to
     complete.judged files t certificate h.problem text (optimal why.0) told asks
     (held_again before files s.source t h.problem h.instance same) there why.1 calm
 
+-- .. or that stops
+bounded_of : (asked : Option Request) (held : Option Files) (quiet : Type 0) (status : Status) → Completeness asked held quiet status
+    → (before files : Files) (s : Solving) (t : Source) (certificate text : List ℕ) → held ≡ Some files
+    → asked ≡ Some (check t certificate) → StopsInstance (Some before) s text → length text ≤ certificate_limit
+    → IsSameInstance before s.source files t → files certificate ≡ Some text → quiet
+    → (status ≡ Stopped) ⊎ (status ≡ Memory)
+bounded_of asked held quiet status complete before files s t certificate text told asks h short same there calm =
+    let why = stopping_why (Some before) h.problem s.how s.search text h.stops short in
+    complete.judged files t certificate h.problem text (bounds why.0 why.1) told asks
+    (held_again before files s.source t h.problem h.instance same) there why.2 calm
+
 pub headline : (asked : Option Request) (held : Option Files) (fails : Request → Type 0) (old new : Option (List ℕ)) (rose quiet : Type 0) (status : Status)
     → Means asked held fails old new rose status → Completeness asked held quiet status
     → Headline asked held old new quiet status
@@ -74,5 +85,7 @@ headline asked held fails old new rose quiet status means complete =
       solved = λ files s told is done. solved_of asked held old new (subst P done means) files s told is;
       checked = λ before files s t certificate text told is h short same there calm.
           checked_of asked held quiet status complete before files s t certificate text told is h short same there calm;
+      bounded = λ before files s t certificate text told is h short same there calm.
+          bounded_of asked held quiet status complete before files s t certificate text told is h short same there calm;
       certified = λ files s certificate told is done. certified_of asked held old new (subst P done means) files s certificate told is;
     }

@@ -1,10 +1,12 @@
 -- What is said of the bytes of the older certificate that is named.
-use Rattle.std.proofs.Common.{◌≡◌, List, ℕ, Option, Some, None, inr, ⊎_elim, sym, subst, ap, ◌∙◌}
+use Rattle.std.proofs.Common.{◌≡◌, List, ℕ, Option, Some, None, inl, inr, ⊎_elim, sym, subst, ap, ◌∙◌}
+use Rattle.std.specs.Prelude.{IfSome}
 use Rattle.std.proofs.lemmas.Option.{none-some}
 use Rattle.hub_io.specs.Outside.{Files, Holds, HoldsMore}
 use Rattle.hub_spec.specs.Problem.{Problem}
 use Rattle.hub_spec.specs.Certificates.{HasCutsOf}
 use Rattle.search_spec.specs.Again.{Start, start_of, IsStartOf}
+use Rattle.search_spec.specs.Costs.{IsAtMostOf}
 use Rattle.cert_spec.specs.Stated.{Stated}
 use Rattle.cert_spec.specs.Verdicts.{Why, too_long, certificate_limit, Older, serves, serves_not, unread, over_limit}
 use Rattle.cert_spec.proofs.OlderTexts.{one_older_from}
@@ -12,8 +14,8 @@ use Rattle.cert_spec.proofs.OneText.{one_certificate_lem}
 use Rattle.cert_spec.proofs.TextOrFault.{each_is_text_or_fault_lem}
 use Rattle.old_duals.proofs.Sizes.{IsServing, still_serving}
 use Rattle.hub_words.specs.Requests.{How, follow, again, freely, older_named}
-use Rattle.hub_top.specs.Commands.{warm, IsSaid, HoldsOlder, MayBegin}
-use Rattle.hub_top.specs.Solving.{GoesBy}
+use Rattle.hub_top.specs.Commands.{warm, IsSaid, HoldsOlder, MayBegin, BegunAt}
+use Rattle.hub_top.specs.Solving.{GoesBy, IsBegun}
 use Rattle.hub_top.specs.Texts.{older_line}
 use Rattle.hub_top.proofs.OneReading.{same_bytes}
 use Rattle.hub_top.proofs.TooLong.{too_long_verdict}
@@ -78,5 +80,14 @@ begun_again held p how name k said start is h serving same starts =
 
 -- and one that follows no rule may begin with it
 pub may_begin : (held : Option Files) (p : Problem) (how : How) (k : Stated) (said : Older) → HoldsOlder held p how said → said ≡ serves k
-    → MayBegin held p how
-may_begin held p how k said h serving = inr (k, subst (λ (o : Older). HoldsOlder held p how o) serving h)
+    → HoldsOlder held p how (serves k)
+may_begin held p how k said h serving = subst (λ (o : Older). HoldsOlder held p how o) serving h
+
+pub begun_may : (held : Option Files) (p : Problem) (how : How) (cost : ℕ) → BegunAt held p how cost → MayBegin held p how
+begun_may held p how cost begun = ⊎_elim (λ none. inl none) (λ older. inr (older.0, older.1)) begun
+
+-- where it began with this, and the hubs of the older certificate cost at least so much
+pub begun_at : (held : Option Files) (p : Problem) (how : How) (older : Option Stated) (cost : ℕ) → IsBegun held p how older
+    → IfSome older (λ k. IsAtMostOf p k.proof.plan.hubs cost) → BegunAt held p how cost
+begun_at held p how None cost begun at_most = inl begun
+begun_at held p how (Some older) cost begun at_most = inr (older, begun, at_most)

@@ -10,14 +10,14 @@ use Rattle.cert_spec.proofs.OneText.{one_certificate_lem}
 use Rattle.cert_spec.proofs.TextOrFault.{each_is_text_or_fault_lem}
 use Rattle.cert_spec.proofs.Unmarked.{unmarked_holds}
 use Rattle.cert_spec.proofs.VerdictLemmas.{one_verdict_from}
-use Rattle.separators.specs.Kinds.{core}
+use Rattle.search_progress.specs.Kinds.{core}
 use Rattle.branch_tree.specs.Findings.{found_by}
 use Rattle.hub_words.specs.Requests.{How, follow, again, freely, node_by_node, by_core_cuts, by_rounds, Search}
 use Rattle.hub_io.specs.Outside.{Files}
 use Rattle.hub_top.specs.Commands.{Course, cold, warm, Method, method_of, free_method, SpellsFound, SpellsBy, rule_certificate}
-use Rattle.hub_top.specs.Commands.{Finds, Solves, Stops, Optimizes, Bounds, SolvesBy}
+use Rattle.hub_top.specs.Commands.{Finds, Solves, Stops, Optimizes, Bounds, SolvesBy, StopsBy}
 use Rattle.search_spec.specs.Again.{start_of}
-use Rattle.hub_top.specs.Theorems.{IsOneVerdict, Ends}
+use Rattle.hub_top.specs.Theorems.{IsOneVerdict, Ends, solved_cost}
 
 -- the verdict on any bytes is the only one
 pub only_verdict : (p : Problem) (bytes : List ℕ) (v w : Verdict) → Why p bytes v → Why p bytes w → w ≡ v
@@ -101,6 +101,16 @@ pub bounded_verdict : (p : Problem) (m : Method) (gap : ℕ) (text : List ℕ) (
 bounded_verdict p m gap text h short =
     let k = h.certificate in gap_verdict p text k (unmarked k) (unmarked_text p text k h.finds.holds h.finds.told) h.gap short
 
+-- so of a text that stops, however it is asked for
+pub stopping_why : (held : Option Files) (p : Problem) (how : How) (q : Search) (text : List ℕ) → StopsBy held p how q text
+    → length text ≤ certificate_limit → (bound : ℕ) × (cost : ℕ) × Why p text (bounds bound cost)
+stopping_why held p (follow rule) q text h short =
+    (h.certificate.bound, h.certificate.cost, (stopped_verdict p (method_of q (cold rule)) text h short).0)
+stopping_why held p (again older) q text h short =
+    (h.is.certificate.bound, h.is.certificate.cost, (stopped_verdict p (method_of q (warm (start_of h.older.proof))) text h.is short).0)
+stopping_why held p (freely gap from) q text h short =
+    (h.0.certificate.bound, h.0.certificate.cost, (bounded_verdict p (free_method q) gap text h.0 short).0)
+
 -- ---- one text, and one cost
 
 -- the text is that of what is stated of the rule's certificate
@@ -116,8 +126,26 @@ rule_text p m text (inr h) = found_text_is p m text h.certificate h.finds h.by_r
 pub one_text_of : (p : Problem) (m : Method) (text other : List ℕ) → Ends p m text → Ends p m other → other ≡ text
 one_text_of p m text other h k = rule_text p m other k ∙ sym (rule_text p m text h)
 
+-- a certificate that holds, whose bound is its cost
+record IsClosedAt (p : Problem) (cost : ℕ) : Type 0 where
+  pub certificate : Proof
+  pub holds : Holds p certificate
+  pub closed : certificate.bound ≡ certificate.cost
+  pub same : certificate.cost ≡ cost
+
+closed_at : (held : Option Files) (p : Problem) (how : How) (q : Search) (text : List ℕ) (h : SolvesBy held p how q text)
+    → IsClosedAt p (solved_cost held p how q text h)
+closed_at held p (follow rule) q text h =
+    record { certificate = h.certificate; holds = h.finds.holds; closed = h.no_gap; same = refl }
+closed_at held p (again older) q text h =
+    record { certificate = h.is.certificate; holds = h.is.finds.holds; closed = h.is.no_gap; same = refl }
+closed_at held p (freely gap from) q text h =
+    record { certificate = h.0.certificate; holds = h.0.finds.holds; closed = h.0.no_gap; same = refl }
+
 -- two texts that solve one instance have one cost
-pub one_cost_of : (p : Problem) (m other : Method) (text too : List ℕ) (solved : Solves p m (SpellsBy p m text)) (later : Solves p other (SpellsBy p other too))
-    → IsProblem p → later.certificate.cost ≡ solved.certificate.cost
-one_cost_of p m other text too solved later ok =
-    one_closed_cost p later.certificate solved.certificate ok later.finds.holds solved.finds.holds later.no_gap solved.no_gap
+pub one_cost_of : (held other : Option Files) (p : Problem) (how later : How) (q r : Search) (text too : List ℕ) (solved : SolvesBy held p how q text)
+    (solved_again : SolvesBy other p later r too) → IsProblem p → solved_cost other p later r too solved_again ≡ solved_cost held p how q text solved
+one_cost_of held other p how later q r text too solved solved_again ok =
+    let k = closed_at held p how q text solved in
+    let l = closed_at other p later r too solved_again in
+    sym l.same ∙ one_closed_cost p l.certificate k.certificate ok l.holds k.holds l.closed k.closed ∙ k.same

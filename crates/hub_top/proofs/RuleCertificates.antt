@@ -9,8 +9,8 @@ use Rattle.hub_spec.proofs.WeakDuality.{no_plan_below_bound}
 use Rattle.search_spec.specs.Findings.{AreWithin, IsSpent, IsCertificateOf}
 use Rattle.search_spec.proofs.LeastRoutes.{certificate_is_one_lem}
 use Rattle.search_spec.proofs.FoundProofs.{certificate_holds_lem}
-use Rattle.hub_top.specs.Commands.{Method, found_from, rule_certificate, Finds, Solves, Stops}
-use Rattle.hub_top.proofs.FoundFrom.{IsSearchable, found_searched}
+use Rattle.hub_top.specs.Commands.{Method, found_from, rule_certificate, Finds, Solves, IsAtMostBegun, Stops}
+use Rattle.hub_top.proofs.FoundFrom.{IsSearchable, found_searched, found_at_most}
 
 -- ---- its certificate
 
@@ -79,4 +79,5 @@ rule_stops p m tells ok told gap =
       gap = gap;
       spent = subst (IsSpent m.nodes) (sym (rule_lines p m ok)) (searched.spent (none_or_some g.state.stop closed));
       not_enough = λ enough. closed (searched.enough enough);
+      at_most = subst (IsAtMostBegun p m.course) (sym is.cost) (found_at_most p m.nodes m.course ok);
     }

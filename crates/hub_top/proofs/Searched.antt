@@ -13,19 +13,19 @@ use Rattle.search_spec.specs.States.{Grown}
 use Rattle.search_spec.specs.Findings.{certificate_of}
 use Rattle.cert_spec.specs.Stated.{as_second, IsStatedOf}
 use Rattle.cert_spec.specs.Text.{Spells, SpellsUnmarked}
-use Rattle.kept_cuts.specs.declared.found.Found.{Found}
-use Rattle.kept_cuts.specs.Findings.{IsVersionFor, IsProved, AreRemade, proof_of}
+use Rattle.cut_pool.specs.declared.found.Found.{Found}
+use Rattle.cut_pool.specs.Findings.{IsVersionFor, IsProved, AreRemade, proof_of}
 use Rattle.search_progress.specs.Findings.{IsFound}
 use Rattle.proof_text.specs.Texts.{found_text}
 use Rattle.proof_text.specs.Certificates.{mark_said, stated_by}
 use Rattle.proof_text.proofs.StatedFindings.{stated_is_of}
-use Rattle.separators.specs.Kinds.{core}
+use Rattle.search_progress.specs.Kinds.{core}
 use Rattle.branch_tree.specs.Findings.{found_by}
 use Rattle.file_spec.specs.Options.{Options}
 use Rattle.file_spec.specs.Instances.{made}
 use Rattle.hub_make.specs.Contents.{made_contents, made_problem}
 use Rattle.hub_words.specs.Requests.{node_by_node, by_core_cuts, by_rounds, How, follow, again, freely, IsAllowed, Making, Search, demo}
-use Rattle.hub_demo.specs.Texts as lines
+use Rattle.hub_make.specs.DemoTexts as lines
 use Rattle.hub_top.specs.declared.status.Status.{Status}
 use Rattle.hub_top.specs.declared.status.Status.TheVariants.{Done, Stopped}
 use Rattle.hub_top.specs.Commands.{Course, cold, warm, Method, demo_method}

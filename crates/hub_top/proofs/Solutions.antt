@@ -4,19 +4,20 @@ use Rattle.hub_io.specs.Outside.{Files}
 use Rattle.hub_spec.specs.Problem.{Problem}
 use Rattle.search_spec.specs.Again.{start_of}
 use Rattle.file_spec.specs.Options.{Options}
-use Rattle.kept_cuts.specs.declared.found.Found.{Found}
-use Rattle.kept_cuts.specs.Findings.{IsProved}
+use Rattle.cut_pool.specs.declared.found.Found.{Found}
+use Rattle.cut_pool.specs.Findings.{IsProved}
 use Rattle.proof_text.specs.Texts.{found_text}
 use Rattle.hub_words.specs.Requests.{How, follow, again, freely, gap_of, IsGap, Search, IsAllowed, SaysLimits, Solving, IsSolving, solve}
 use Rattle.hub_top.specs.declared.status.Status.{Status}
 use Rattle.hub_top.specs.declared.status.Status.TheVariants.{Done, Stopped}
-use Rattle.hub_top.specs.Commands.{Course, cold, warm, method_of, SolvesBy, StopsBy, MayBegin}
+use Rattle.hub_top.specs.Commands.{Course, cold, warm, method_of, SolvesBy, StopsBy, BegunAt}
 use Rattle.hub_top.specs.Answers.{Answers}
 use Rattle.hub_top.specs.Views.{finding_status}
 use Rattle.hub_top.specs.Building.{KeepsLimits}
 use Rattle.hub_top.specs.Solving.{IsSearched, IsClosed, IsFoundBy, IsSolution, GoesBy}
 use Rattle.hub_top.proofs.Versions.{said_version, rule_version}
 use Rattle.hub_top.proofs.Searched.{ruled_status}
+use Rattle.hub_top.proofs.OlderCertificates.{begun_may}
 use Rattle.hub_top.proofs.Optimized.{free_status}
 
 -- what a search that goes so found is what was asked for
@@ -28,9 +29,9 @@ ruled_found held p (freely gap from) q course found goes h = absurd goes
 
 -- and what one that follows no rule found
 pub free_found : (held : Option Files) (p : Problem) (how : How) (q : Search) (gap : ℕ) (from : Option (List ℕ)) (found : Found)
-    → how ≡ freely gap from → MayBegin held p how → IsClosed p q.nodes gap found → IsFoundBy held p how q found
-free_found held p how q gap from found is may h =
-    subst (λ (x : How). MayBegin held p x → IsFoundBy held p x q found) (sym is) (λ begun. (h, begun)) may
+    → how ≡ freely gap from → BegunAt held p how found.cost → IsClosed p q.nodes gap found → IsFoundBy held p how q found
+free_found held p how q gap from found is begun h =
+    subst (λ (x : How). BegunAt held p x found.cost → IsFoundBy held p x q found) (sym is) (λ at. (h, at)) begun
 
 -- it is proved of the problem
 pub found_proved : (held : Option Files) (p : Problem) (how : How) (q : Search) (found : Found) → IsFoundBy held p how q found → IsProved p found
@@ -55,7 +56,8 @@ by_how held p (again older) q o found P keeps allowed says h done stopped =
     (λ stops. stopped (record { older = h.0; older_held = h.1; second = allowed; is = stops }))
 by_how held p (freely gap from) q o found P keeps allowed says h done stopped =
     free_status p q gap found P (said_version o q.version p found.cuts.cuts keeps h.0.own allowed says) h.0
-    (λ optimizes. done (optimizes, h.1)) (λ leaves. stopped (leaves, h.1))
+    (λ optimizes. done (optimizes, begun_may held p (freely gap from) found.cost h.1))
+    (λ leaves. stopped (leaves.0, subst (BegunAt held p (freely gap from)) (sym leaves.1) h.1))
 
 pub solve_answers : (held : Option Files) (s : Solving) (p : Problem) (found : Found) → IsSolving s → IsSolution held s p found
     → Answers (solve s) (finding_status found) held (found_text s.search.version p found)

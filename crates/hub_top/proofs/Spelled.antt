@@ -4,13 +4,13 @@ use Rattle.hub_spec.specs.Problem.{Problem}
 use Rattle.hub_spec.specs.Trees.{Tree, preorder}
 use Rattle.cert_spec.specs.Stated.{as_second}
 use Rattle.cert_spec.specs.Text.{Spells, SpellsUnmarked}
-use Rattle.kept_cuts.specs.Kept.{Kept}
-use Rattle.kept_cuts.specs.declared.found.Found.{Found}
-use Rattle.kept_cuts.specs.Findings.{IsVersionFor, IsProved, lines_of, proof_of}
+use Rattle.cut_pool.specs.Kept.{Kept}
+use Rattle.cut_pool.specs.declared.found.Found.{Found}
+use Rattle.cut_pool.specs.Findings.{IsVersionFor, IsProved, lines_of, proof_of}
 use Rattle.proof_text.specs.Certificates.{stated_by}
 use Rattle.proof_text.specs.Texts.{found_text}
 use Rattle.proof_text.proofs.FoundLines.{found_text_certificate}
-use Rattle.proof_text.proofs.StatedFindings.{stated_in_range, stated_unmarked}
+use Rattle.proof_text.proofs.StatedFindings.{proved_in_range, stated_unmarked}
 
 -- a version that has a text for each finding is before the third, and says what it says
 not_third : (p : Problem) (cuts : List Kept) (version : ℕ) → IsVersionFor p cuts version → version ≢ 3
@@ -26,7 +26,7 @@ pub spells_stated : (version : ℕ) (p : Problem) (found : Found) (tree : Tree) 
     → lines_of found.tree.items ≡ preorder tree → IsVersionFor p found.cuts.cuts (as_second version)
     → Spells (found_text version p found) (stated_by version p found tree)
 spells_stated version p found tree proved lines there = record {
-  in_range = stated_in_range version p found tree proved lines there;
+  in_range = proved_in_range version p found tree proved lines there;
   text = found_text_certificate version p found tree lines;
 }
 

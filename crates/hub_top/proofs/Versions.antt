@@ -6,9 +6,9 @@ use Rattle.hub_spec.specs.Problem.{Problem}
 use Rattle.hub_spec.proofs.SumLemmas.{by_test}
 use Rattle.search_spec.proofs.Nodes.{none_there}
 use Rattle.file_spec.specs.Options.{Options}
-use Rattle.kept_cuts.specs.Kept.{Kept, IsRemade}
-use Rattle.kept_cuts.specs.Findings.{IsUnlimited, AreRemade, IsVersionFor}
-use Rattle.kept_cuts.specs.declared.found.Found.{Found}
+use Rattle.cut_pool.specs.Kept.{Kept, IsRemade}
+use Rattle.cut_pool.specs.Findings.{IsUnlimited, AreRemade, IsVersionFor}
+use Rattle.cut_pool.specs.declared.found.Found.{Found}
 use Rattle.hub_words.specs.Requests as words
 use Rattle.hub_words.specs.Requests.{node_by_node, by_core_cuts, by_rounds, SearchRule, follow, IsAllowed, SaysLimits}
 use Rattle.hub_top.specs.Commands.{Course, cold}

@@ -8,7 +8,7 @@ use Rattle.hub_spec.specs.Certificates.{Proof}
 use Rattle.cert_spec.specs.Verdicts.{Verdict, optimal, bounds, Older, serves}
 use Rattle.hub_make.specs.Texts.{made_text}
 use Rattle.hub_make.specs.Contents.{made_problem}
-use Rattle.hub_demo.specs.Texts as lines
+use Rattle.hub_make.specs.DemoTexts as lines
 use Rattle.search_spec.specs.Again.{start_of}
 use Rattle.hub_words.specs.Requests.{Source, Search, Solving, Request, solve, check, report, make, demo}
 use Rattle.hub_top.specs.declared.status.Status.{Status}

@@ -3,13 +3,14 @@ use Rattle.std.specs.Prelude.{◌≡◌, ℕ, ◌+◌, ◌^◌, ◌<◌, ◌≤�
 use Rattle.std.specs.List.{AllZip}
 use Rattle.hub_io.specs.Outside.{Files}
 use Rattle.hub_spec.specs.Problem.{Problem, commodities}
-use Rattle.hub_spec.specs.Plans.{Plan, IsPlan, IsOptimal, IsSetCost, IsLeastRoute, NoPlanBelow, plan_cost}
+use Rattle.hub_spec.specs.Plans.{Plan, IsPlan, IsOptimal, IsLeastRoute, NoPlanBelow, plan_cost}
 use Rattle.hub_spec.specs.Lacking.{lacking}
 use Rattle.hub_spec.specs.Trees.{line_count}
 use Rattle.hub_spec.specs.Certificates.{Proof, Holds}
 use Rattle.search_spec.specs.States.{Grown}
 use Rattle.search_spec.specs.Findings.{AreWithin, IsSpent, IsEnough, certificate_of}
 use Rattle.search_spec.specs.Again.{Start, start_of}
+use Rattle.search_spec.specs.Costs.{IsAtMostOf, first_hubs, IsAtMostBoth}
 use Rattle.core_spec.specs.CoreCuts.{Mark}
 use Rattle.cert_spec.specs.Stated.{Stated, IsAsMarked, IsStatedOf}
 use Rattle.cert_spec.specs.Text.{Spells, SpellsUnmarked}
@@ -19,7 +20,7 @@ use Rattle.file_spec.specs.Faults.{Fault}
 use Rattle.file_spec.specs.Contents.{Contents}
 use Rattle.file_spec.specs.Files.{HasContents}
 use Rattle.file_spec.specs.Instances.{build_fault, GivesInstance, GivesFileFault, GivesCosts, GivesCostFault}
-use Rattle.separators.specs.Kinds.{minimal, core}
+use Rattle.search_progress.specs.Kinds.{minimal, core}
 use Rattle.branch_tree.specs.Findings.{found_by, found_again}
 use Rattle.node_rounds.specs.Findings.{found_by_rounds}
 use Rattle.closing_search.specs.Gaps.{IsWithinGap}
@@ -166,7 +167,14 @@ pub record Solves (p : Problem) (m : Method) (tells : Proof → Type 0) : Type 0
   pub no_gap : certificate.bound ≡ certificate.cost
   pub optimal : IsOptimal p certificate.plan
 
--- its bound is below its cost, since two nodes more are not allowed, and fewer than a whole tree has
+-- it is at most the cost of what a search begins with that goes so: of all candidates, or where a number of hubs is wanted as many
+-- of the least, and of the hubs of the older certificate, where these are a hub set that is wanted
+abbrev pub IsAtMostBegun : Problem → Course → ℕ → Type 0
+IsAtMostBegun p (cold rule) cost = IsAtMostOf p (first_hubs p) cost
+IsAtMostBegun p (warm start) cost = IsAtMostBoth p start cost
+
+-- its bound is below its cost, since two nodes more are not allowed, and fewer than a whole tree has; it costs at most what the
+-- search began with
 pub record Stops (p : Problem) (m : Method) (tells : Proof → Type 0) : Type 0 where
   pub certificate : Proof
   pub by_rule : IsByRule p m certificate
@@ -174,12 +182,9 @@ pub record Stops (p : Problem) (m : Method) (tells : Proof → Type 0) : Type 0 
   pub gap : certificate.bound < certificate.cost
   pub spent : IsSpent m.nodes (line_count certificate.tree)
   pub not_enough : IsEnoughFor p m.nodes → ⊥
+  pub at_most : IsAtMostBegun p m.course certificate.cost
 
 -- ---- what a search that follows no rule comes to
-
--- where any number of hubs will do, it costs at most what all candidates as hubs cost
-abbrev pub IsAtMostAll : Problem → Proof → Type 0
-IsAtMostAll p k = p.wanted ≡ None → (cost : ℕ) → IsSetCost p p.candidates cost → k.cost ≤ cost
 
 -- the text is a certificate's whose bound is its cost: no nonempty set of candidates, as many as are wanted, with any routing over
 -- allowed routes costs less
@@ -190,14 +195,16 @@ pub record Optimizes (p : Problem) (m : Method) (text : List ℕ) : Type 0 where
   pub optimal : IsOptimal p certificate.plan
 
 -- its bound is below its cost, since two nodes more are not allowed, and fewer than a whole tree has, or within the allowed
--- gap, in thousandths of a per cent of the cost; where any number of hubs will do it costs at most what all candidates as hubs cost
+-- gap, in thousandths of a per cent of the cost; no greater bound is proved by its cuts and its tree; it costs at most what all
+-- candidates as hubs cost, or where a number of hubs is wanted as many of the least
 pub record Bounds (p : Problem) (m : Method) (allowed : ℕ) (text : List ℕ) : Type 0 where
   pub certificate : Proof
   pub finds : Finds p m (SpellsUnmarked text) certificate
   pub gap : certificate.bound < certificate.cost
   pub reason : (IsSpent m.nodes (line_count certificate.tree) × (IsEnoughFor p m.nodes → ⊥))
       ⊎ IsWithinGap allowed certificate.bound certificate.cost
-  pub at_most : IsAtMostAll p certificate
+  pub best : (more : ℕ) → Holds p (record certificate { bound = more }) → more ≤ certificate.bound
+  pub at_most : IsAtMostOf p (first_hubs p) certificate.cost
 
 -- ---- the older certificate
 
@@ -220,6 +227,11 @@ pub record HoldsOlder (held : Option Files) (p : Problem) (how : How) (said : Ol
 abbrev pub MayBegin : Option Files → Problem → How → Type 0
 MayBegin held p how = (older_named how ≡ None) ⊎ ((older : Stated) × HoldsOlder held p how (serves older))
 
+-- .. and where its hubs are a hub set that is wanted, they cost at least this
+abbrev pub BegunAt : Option Files → Problem → How → ℕ → Type 0
+BegunAt held p how cost =
+    (older_named how ≡ None) ⊎ ((older : Stated) × HoldsOlder held p how (serves older) × IsAtMostOf p older.proof.plan.hubs cost)
+
 -- the file holds an older certificate that serves, and this is so of the search from its cuts, which is told in the second version
 pub record FromOlder (held : Option Files) (p : Problem) (how : How) (q : Search) (so : Method → Type 0) : Type 0 where
   pub older : Stated
@@ -239,7 +251,8 @@ SolvesBy held p (freely gap from) q text = Optimizes p (free_method q) text × M
 abbrev pub StopsBy : Option Files → Problem → How → Search → List ℕ → Type 0
 StopsBy held p (follow rule) q text = Stops p (method_of q (cold rule)) (SpellsBy p (method_of q (cold rule)) text)
 StopsBy held p (again older) q text = FromOlder held p (again older) q (λ m. Stops p m (SpellsBy p m text))
-StopsBy held p (freely gap from) q text = Bounds p (free_method q) gap text × MayBegin held p (freely gap from)
+StopsBy held p (freely gap from) q text =
+    (bounds : Bounds p (free_method q) gap text) × BegunAt held p (freely gap from) bounds.certificate.cost
 
 -- the files give an instance, which the text solves
 pub record SolvesInstance (held : Option Files) (s : Solving) (text : List ℕ) : Type 0 where

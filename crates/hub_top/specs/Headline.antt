@@ -5,10 +5,10 @@ use Rattle.hub_io.specs.Outside.{Files}
 use Rattle.hub_spec.specs.Problem.{Problem}
 use Rattle.cert_spec.specs.Verdicts.{certificate_limit}
 use Rattle.hub_top.specs.declared.status.Status.{Status}
-use Rattle.hub_top.specs.declared.status.Status.TheVariants.{Done, Memory}
+use Rattle.hub_top.specs.declared.status.Status.TheVariants.{Done, Stopped, Memory}
 use Rattle.hub_words.specs.Requests.{Source, Solving, Request, solve, check}
 use Rattle.hub_top.specs.Texts.{optimal_line}
-use Rattle.hub_top.specs.Commands.{HoldsInstance, SolvesInstance}
+use Rattle.hub_top.specs.Commands.{HoldsInstance, SolvesInstance, StopsInstance}
 use Rattle.cert_checker.specs.Shows.{ProvesOptimal}
 
 -- the costs files named hold the same bytes, or none is named
@@ -37,6 +37,11 @@ pub record Headline (asked : Option Request) (held : Option Files) (old new : Op
       → asked ≡ Some (check t certificate) → SolvesInstance (Some before) s text → length text ≤ certificate_limit
       → IsSameInstance before s.source files t → files certificate ≡ Some text → quiet
       → (status ≡ Done) ⊎ (status ≡ Memory)
+  -- so it ends with status 1 on a text with which one of these ended with status 1
+  pub bounded : (before files : Files) (s : Solving) (t : Source) (certificate text : List ℕ) → held ≡ Some files
+      → asked ≡ Some (check t certificate) → StopsInstance (Some before) s text → length text ≤ certificate_limit
+      → IsSameInstance before s.source files t → files certificate ≡ Some text → quiet
+      → (status ≡ Stopped) ⊎ (status ≡ Memory)
   -- wherever `check` ends with status 0, on any bytes whatever, the named network attains its cost and no plan costs less
   pub certified : (files : Files) (s : Source) (certificate : List ℕ) → held ≡ Some files → asked ≡ Some (check s certificate) → status ≡ Done
       → (p : Problem) × HoldsInstance files s p

@@ -15,3 +15,4 @@ pub mod Solving
 pub mod Judging
 pub mod Told
 pub mod Reporting
+pub mod Named

@@ -61,9 +61,11 @@ pub record StaysShelf {S : Type 0} (held : S → Option Files) (faults : S → �
   pub later : faults old ≤ faults new
   pub sound_still : sound old → sound new
 
--- the shelf failed, and a sound one that tells lacks a file that the request names, when its turn comes
+-- the request names an instance, and the shelf failed, and a sound one that tells lacks a file that the request names, when its turn
+-- comes
 abbrev pub ShelfFails : {S : Type 0} (held : S → Option Files) (faults : S → ℕ) (sound : S → Type 0) (old new : S) → Request → Type 0
-ShelfFails held faults sound old new request = FailsFor held faults sound old new (λ files. Lacks files request)
+ShelfFails held faults sound old new request =
+    (s : Source) × (instance request ≡ Some s) × FailsFor held faults sound old new (λ files. Lacks files request)
 
 -- no fault of the shelf or of a sink rose
 abbrev pub Quiet : {S O E : Type 0} → (S → ℕ) → S → S → (O → ℕ) → O → O → (E → ℕ) → E → E → Type 0

@@ -3,19 +3,21 @@ use Rattle.std.specs.Prelude.{◌≡◌, ℕ, ◌+◌, ◌^◌, ◌<◌, ◌≤�
 use Rattle.std.specs.List.{AllZip}
 use Rattle.hub_io.specs.Outside.{Files}
 use Rattle.hub_spec.specs.Problem.{Problem, IsProblem, commodities}
-use Rattle.hub_spec.specs.Plans.{IsHubSet, IsSetCost, IsLeastRoute}
+use Rattle.hub_spec.specs.Plans.{IsHubSet, IsLeastRoute}
 use Rattle.search_spec.specs.Findings.{AreWithin, IsSpent, certificate_of}
 use Rattle.search_spec.specs.Again.{start_of, IsStartOf}
+use Rattle.search_spec.specs.Costs.{IsAtMostOf, first_hubs}
 use Rattle.cert_spec.specs.Stated.{Stated}
 use Rattle.cert_spec.specs.Verdicts.{Older, serves}
 use Rattle.cert_checker.specs.Shows.{verdict_of}
 use Rattle.cert_checker.specs.declared.texts.Ending.{Ending}
-use Rattle.kept_cuts.specs.Findings.{IsProved, AreRemade, proof_of}
-use Rattle.kept_cuts.specs.declared.found.Found as finding
+use Rattle.cut_pool.specs.Findings.{IsProved, AreRemade, proof_of}
+use Rattle.cut_pool.specs.declared.found.Found as finding
 use Rattle.search_progress.specs.Findings.{IsFound}
 use Rattle.closing_search.specs.Gaps.{IsWithinGap}
+use Rattle.closing_search.specs.Progressing.{IsBestBound}
 use Rattle.search_core.specs.Starts.{start_seen}
-use Rattle.hub_words.specs.Requests.{SearchRule, node_by_node, by_core_cuts, by_rounds, How, follow, again, freely, older_named, Search, Solving}
+use Rattle.hub_words.specs.Requests.{node_by_node, by_core_cuts, by_rounds, How, follow, again, freely, older_named, Search, Solving}
 use Rattle.hub_words.specs.Views.{rule_seen}
 use Rattle.hub_top.specs.declared.searching.Course as code
 use Rattle.hub_top.specs.declared.searching.Course.TheVariants.{Cold, Warm}
@@ -26,7 +28,7 @@ use Rattle.hub_top.specs.declared.preparing.Reading.TheVariants as reading
 use Rattle.hub_top.specs.declared.preparing.Prepared.{Prepared}
 use Rattle.hub_top.specs.declared.preparing.Prepared.TheVariants as prepared
 use Rattle.hub_top.specs.declared.status.Status.TheVariants.{No}
-use Rattle.hub_top.specs.Commands.{Course, cold, warm, found_from, IsEnoughFor, HoldsOlder, MayBegin, RefusesOlder, LacksNetwork}
+use Rattle.hub_top.specs.Commands.{Course, cold, warm, found_from, IsEnoughFor, HoldsOlder, BegunAt, RefusesOlder, LacksNetwork}
 use Rattle.hub_top.specs.Texts.{verdict_text, older_line}
 use Rattle.hub_top.specs.Answers.{verdict_status}
 use Rattle.hub_top.specs.Building.{KeepsLimits}
@@ -62,15 +64,16 @@ pub record IsSearched (p : Problem) (nodes : Option ℕ) (course : Course) (foun
   pub remade : IsRemadeCourse course → AreRemade found
   pub certificate : (version : ℕ) → proof_of version p found (found_from p nodes course).tree ≡ certificate_of p version (found_from p nodes course)
 
--- it is a proved network of the problem, with least routes, that costs at most what all candidates do where any number of hubs will
--- do, with no more nodes than are allowed and than a whole tree has; its bound is below its cost, and not within the gap, only where two
+-- it is a proved network of the problem, with least routes, that costs at most what all candidates do, or as many of the least as are
+-- wanted, with no more nodes than are allowed and than a whole tree has; its bound is below its cost, and not within the gap, only where two
 -- nodes more are not allowed, and fewer than a whole tree has
 pub record IsClosed (p : Problem) (nodes : Option ℕ) (gap : ℕ) (found : finding.Found) : Type 0 where
   pub problem : IsProblem p
   pub proved : IsProved p found
   pub own : AreRemade found
   pub routes : AllZip (IsLeastRoute p found.plan.hubs) (commodities p.size) found.plan.routes
-  pub at_most : p.wanted ≡ None → (cost : ℕ) → IsSetCost p p.candidates cost → found.cost ≤ cost
+  pub at_most : IsAtMostOf p (first_hubs p) found.cost
+  pub best : IsBestBound p found
   pub within : found.bound ≤ found.cost
   pub most : length found.tree.items + 1 ≤ 2 ^ (length p.candidates + 1)
   pub allowed : AreWithin nodes (length found.tree.items)
@@ -82,7 +85,7 @@ abbrev pub IsFoundBy : Option Files → Problem → How → Search → finding.F
 IsFoundBy held p (follow rule) q found = IsSearched p q.nodes (cold rule) found
 IsFoundBy held p (again older) q found =
     (k : Stated) × HoldsOlder held p (again older) (serves k) × IsSearched p q.nodes (warm (start_of k.proof)) found
-IsFoundBy held p (freely gap from) q found = IsClosed p q.nodes gap found × MayBegin held p (freely gap from)
+IsFoundBy held p (freely gap from) q found = IsClosed p q.nodes gap found × BegunAt held p (freely gap from) found.cost
 
 -- it is so for the instance of the source
 pub record IsSolution (held : Option Files) (s : Solving) (p : Problem) (found : finding.Found) : Type 0 where
@@ -119,9 +122,15 @@ GoesBy held p (again older) course =
     (k : Stated) × HoldsOlder held p (again older) (serves k) × (course ≡ warm (start_of k.proof)) × MayGo p course
 GoesBy held p (freely gap from) course = ⊥
 
+-- what a search that follows no rule may begin with: with nothing where no older certificate is named, or with the one that is held
+-- and serves
+abbrev pub IsBegun : Option Files → Problem → How → Option Stated → Type 0
+IsBegun held p how None = older_named how ≡ None
+IsBegun held p how (Some older) = HoldsOlder held p how (serves older)
+
 -- what is prepared for a search that is asked for so: how it goes by a rule, or that it follows none, up to this gap, and may begin, or
 -- the ending that tells why the older certificate does not serve
 abbrev pub IsPrepared : Option Files → Problem → How → Prepared → Type 0
 IsPrepared held p how (prepared.Ruled course) = GoesBy held p how (course_seen course)
-IsPrepared held p how (prepared.Free gap older) = (from : Option (List ℕ)) × (how ≡ freely gap from) × MayBegin held p how
+IsPrepared held p how (prepared.Free gap older) = (from : Option (List ℕ)) × (how ≡ freely gap from) × IsBegun held p how older
 IsPrepared held p how (prepared.Refused ending) = (said : Older) × TellsWhy said ending × HoldsOlder held p how said

@@ -1,11 +1,11 @@
 -- What a text that solves an instance is to a check, that a search has one text, and that files have one fault.
-use Rattle.std.specs.Prelude.{◌≡◌, ℕ, ◌≤◌, List, length, ◌⊎◌}
+use Rattle.std.specs.Prelude.{◌≡◌, ℕ, ◌≤◌, List, length, Option, ◌⊎◌}
 use Rattle.hub_spec.specs.Problem.{Problem, IsProblem}
 use Rattle.cert_spec.specs.Verdicts.{Verdict, optimal, bounds, Why, certificate_limit}
 use Rattle.file_spec.specs.Faults.{Fault}
 use Rattle.hub_io.specs.Outside.{Files}
-use Rattle.hub_words.specs.Requests.{Source}
-use Rattle.hub_top.specs.Commands.{Method, SpellsBy, Solves, Stops, Optimizes, Bounds, Blame, HasBlame}
+use Rattle.hub_words.specs.Requests.{Source, How, follow, again, freely, Search}
+use Rattle.hub_top.specs.Commands.{Method, SpellsBy, Solves, Stops, Optimizes, Bounds, SolvesBy, Blame, HasBlame}
 
 -- the verdict is the one on the text, and no other
 abbrev pub IsOneVerdict : Problem → List ℕ → Verdict → Type 0
@@ -38,10 +38,17 @@ Ends p m text = Solves p m (SpellsBy p m text) ⊎ Stops p m (SpellsBy p m text)
 abbrev pub OneText : Type 0
 OneText = (p : Problem) (m : Method) (text other : List ℕ) → Ends p m text → Ends p m other → other ≡ text
 
--- two texts that solve one instance print one cost, however the searches go
+-- the cost of a text that solves the instance
+abbrev pub solved_cost : (held : Option Files) (p : Problem) (how : How) (q : Search) (text : List ℕ) → SolvesBy held p how q text → ℕ
+solved_cost held p (follow rule) q text h = h.certificate.cost
+solved_cost held p (again older) q text h = h.is.certificate.cost
+solved_cost held p (freely gap from) q text h = h.0.certificate.cost
+
+-- two texts that solve one instance print one cost, whichever of `solve`, `resolve` and `optimize` writes them, and however the
+-- searches go
 abbrev pub OneCost : Type 0
-OneCost = (p : Problem) (m other : Method) (text too : List ℕ) (solved : Solves p m (SpellsBy p m text)) (again : Solves p other (SpellsBy p other too))
-    → IsProblem p → again.certificate.cost ≡ solved.certificate.cost
+OneCost = (held other : Option Files) (p : Problem) (how later : How) (q r : Search) (text too : List ℕ) (solved : SolvesBy held p how q text)
+    (solved_again : SolvesBy other p later r too) → IsProblem p → solved_cost other p later r too solved_again ≡ solved_cost held p how q text solved
 
 -- two faults that the same files have are one, told of one file
 abbrev pub OneBlame : Type 0

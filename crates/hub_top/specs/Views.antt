@@ -4,13 +4,13 @@ use Rattle.cert_spec.specs.Stated.{IsStatedOf}
 use Rattle.hub_model.specs.Faults.{fault_of}
 use Rattle.hub_words.specs.Requests.{IsSearch}
 use Rattle.hub_words.specs.Views.{search_seen}
-use Rattle.kept_cuts.specs.declared.found.Found.{Found as Finding}
-use Rattle.kept_cuts.specs.Findings.{IsProved}
+use Rattle.cut_pool.specs.declared.found.Found.{Found as Finding}
+use Rattle.cut_pool.specs.Findings.{IsProved}
 use Rattle.cert_scan.specs.Versions.{version_number}
 use Rattle.dual_lender.specs.Lenders.{IsLenderFor}
 use Rattle.proof_text.specs.Texts.{found_text}
 use Rattle.network_report.specs.Texts.{report_text}
-use Rattle.hub_demo.specs.Texts.{demo_text}
+use Rattle.hub_make.specs.DemoTexts.{demo_text}
 use Rattle.cert_checker.specs.Shows.{verdict_of}
 use Rattle.hub_top.specs.declared.status.Status.{Status}
 use Rattle.hub_top.specs.declared.status.Status.TheVariants.{Done, Stopped}

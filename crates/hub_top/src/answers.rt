@@ -9,10 +9,10 @@ use crate::Status;
 use crate::verdict_lines::{put_ending, status_of_ending};
 use cert_checker::Ending;
 use cert_format::Certificate;
-use hub_demo::put_demo;
+use hub_make::put_demo;
 use hub_io::{Failed, Sink};
 use hub_model::Instance;
-use kept_cuts::Found;
+use cut_pool::Found;
 use network_report::report;
 
 /// What a command answers, before it is written.

@@ -1,10 +1,12 @@
 //! The command `check`: an instance and a certificate from their files to a verdict.
 
 ghost use Rattle.std.specs.Prelude.{◌≡◌, ◌⊎◌, IfOk, IfErr};
+ghost use Rattle.hub_io.specs.Outside.{BeginsOnly};
 ghost use Rattle.cert_checker.specs.Shows.{verdict_of};
 ghost use Rattle.hub_words.specs.Requests.{AreSources, AsksListed};
 ghost use Rattle.hub_words.specs.Views.{source_of};
 ghost use Rattle.hub_top.specs.Commands.{JudgesFile, LacksSource, LacksCertificate};
+ghost use Rattle.hub_top.specs.Named.{IsFileOf};
 ghost use Rattle.hub_top.specs.Outcomes.{FailsFor, StaysShelf};
 ghost use Rattle.hub_top.specs.Halts.{Halts, IsOfSource};
 ghost use Rattle.hub_top.specs.Judging.{IsNoFault, IsVerdictOn};
@@ -33,6 +35,7 @@ pub fn check<S: Shelf>(
         (FailsFor S.held S.faults S.sound shelf.old shelf.new
         (λ files. LacksSource files (source_of source.now) ⊎ LacksCertificate files (source_of source.now) certificate.now))) }
     ensures stays { StaysShelf S.held S.faults S.sound shelf.old shelf.new }
+    ensures begins { BeginsOnly (λ name. IsFileOf (source_of source.now) name ⊎ (name ≡ certificate.now)) (S.names shelf.old) (S.names shelf.new) }
 {
     let instance = read_instance(alloc, source, shelf)?;
     check_file(alloc, &instance, certificate, shelf)
@@ -49,6 +52,7 @@ fn check_file<S: Shelf>(
     ensures halted { IfErr result (Halts IsNoFault
         (FailsFor S.held S.faults S.sound shelf.old shelf.new (LacksFile certificate.now))) }
     ensures stays { StaysShelf S.held S.faults S.sound shelf.old shelf.new }
+    ensures begins { BeginsOnly (λ name. name ≡ certificate.now) (S.names shelf.old) (S.names shelf.new) }
 {
     match check_held(alloc, shelf, certificate, instance) {
         Ok(ending) => Ok(ending),

@@ -1,6 +1,7 @@
 //! The fixed costs of a costs file.
 
 ghost use Rattle.std.specs.Prelude.{◌≡◌, option_map, Some, None, map, IsSome, IfSome, IfOk, IfErr};
+ghost use Rattle.hub_io.specs.Outside.{BeginsOnly};
 ghost use Rattle.file_spec.specs.Files.{HasCosts};
 ghost use Rattle.hub_model.specs.Amounts.{natural};
 ghost use Rattle.hub_model.specs.Building.{AreGivenCosts, costs_of};
@@ -32,6 +33,7 @@ pub fn costs_of_file<S: Shelf>(
         IfErr result (Halts (IsOfCosts (S.held shelf.old) name parts.now.size)
         (FailsFor S.held S.faults S.sound shelf.old shelf.new (LacksCosts name))) }
     ensures stays { StaysShelf S.held S.faults S.sound shelf.old shelf.new }
+    ensures begins { BeginsOnly (λ name. option_map (λ name. name.now) file.entry ≡ Some name) (S.names shelf.old) (S.names shelf.new) }
 {
     let Some(name) = file else {
         return Ok(None);

@@ -1,7 +1,7 @@
 //! The bytes of an instance file or a costs file.
 
 ghost use Rattle.std.specs.Prelude.{◌≡◌, ◌≤◌, length, IfOk, IfErr};
-ghost use Rattle.hub_io.specs.Outside.{Holds};
+ghost use Rattle.hub_io.specs.Outside.{Holds, BeginsOnly};
 ghost use Rattle.file_spec.specs.Limits.{file_limit};
 ghost use Rattle.hub_top.specs.Blames.{blame_of};
 ghost use Rattle.hub_top.specs.Outcomes.{FailsFor, StaysShelf};
@@ -28,6 +28,7 @@ pub fn read_file<S: Shelf>(
     ensures halted { IfErr result (Halts (IsTooLong (S.held shelf.old) file.now (blame_of blamed))
         (FailsFor S.held S.faults S.sound shelf.old shelf.new (LacksFile file.now))) }
     ensures stays { StaysShelf S.held S.faults S.sound shelf.old shelf.new }
+    ensures begins { BeginsOnly (λ name. name ≡ file.now) (S.names shelf.old) (S.names shelf.new) }
 {
     match read_whole(alloc, shelf, file, FILE_LIMIT) {
         Ok(bytes) => Ok(bytes),

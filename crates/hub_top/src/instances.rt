@@ -1,12 +1,14 @@
 //! The instance of a command, from its files.
 
 ghost use Rattle.std.specs.Prelude.{◌≡◌, IfOk, IfErr};
+ghost use Rattle.hub_io.specs.Outside.{BeginsOnly};
 ghost use Rattle.file_spec.specs.Files.{HasContents};
 ghost use Rattle.token_reader.specs.Refusals.{IsRefused};
 ghost use Rattle.hub_model.specs.Building.{costs_of};
 ghost use Rattle.hub_words.specs.Requests.{AreSources, AsksListed};
 ghost use Rattle.hub_words.specs.Views.{layout_of, source_of};
 ghost use Rattle.hub_top.specs.Commands.{LacksSource};
+ghost use Rattle.hub_top.specs.Named.{IsFileOf};
 ghost use Rattle.hub_top.specs.Outcomes.{FailsFor, StaysShelf};
 ghost use Rattle.hub_top.specs.Building.{IsBuilt, AreBuildable, KeepsLimits};
 ghost use Rattle.hub_top.specs.Halts.{Halts, IsOfToken, IsOfWhole, IsOfSource};
@@ -36,6 +38,7 @@ pub fn read_instance<S: Shelf>(
     ensures halted { IfErr result (Halts (IsOfSource (S.held shelf.old) (source_of source.now))
         (FailsFor S.held S.faults S.sound shelf.old shelf.new (λ files. LacksSource files (source_of source.now)))) }
     ensures stays { StaysShelf S.held S.faults S.sound shelf.old shelf.new }
+    ensures begins { BeginsOnly (IsFileOf (source_of source.now)) (S.names shelf.old) (S.names shelf.new) }
 {
     let bytes = read_file(alloc, source.file, Blamed::Instance, shelf)?;
     let parts = parts_of(alloc, &bytes, source)?;

@@ -37,7 +37,8 @@ pub fn one_text()
     ensures { OneText }
 {}
 
-/// Two texts that solve one instance print one cost: `solve` by each rule, with core cuts or without, and `resolve` come to the same.
+/// Two texts that solve one instance print one cost: `solve` by each rule, with core cuts or without, `resolve` and `optimize` come
+/// to the same.
 pub fn one_cost()
     ensures { OneCost }
 {}

@@ -3,7 +3,7 @@
 ghost use Rattle.std.specs.Prelude.{◌≡◌, ◌⊎◌};
 ghost use Rattle.hub_io.specs.Outside.{Puts};
 ghost use Rattle.cert_scan.specs.Versions.{version_number};
-ghost use Rattle.kept_cuts.specs.Findings.{IsProved};
+ghost use Rattle.cut_pool.specs.Findings.{IsProved};
 ghost use Rattle.dual_lender.specs.Lenders.{IsLenderFor};
 ghost use Rattle.proof_text.specs.Texts.{found_text};
 ghost use Rattle.hub_words.specs.Requests.{IsSearch};
@@ -21,7 +21,7 @@ use dual_lender::DualLender;
 use hub_io::{Failed, Sink};
 use hub_model::Instance;
 use hub_words::Search;
-use kept_cuts::Found;
+use cut_pool::Found;
 use proof_text::{Finding, Workers, write_found};
 use std::alloc::Global;
 use std::thread::Threads;

@@ -1,6 +1,7 @@
 //! What a search begins with, as it is asked for: how it goes, and the older certificate that is named.
 
 ghost use Rattle.std.specs.Prelude.{◌≡◌, Some, IfOk, IfErr};
+ghost use Rattle.hub_io.specs.Outside.{BeginsOnly};
 ghost use Rattle.cert_checker.specs.Shows.{older_of};
 ghost use Rattle.hub_words.specs.Requests.{older_named};
 ghost use Rattle.hub_words.specs.Views.{how_seen};
@@ -49,6 +50,7 @@ pub fn prepare<R: Threads + Sync, S: Shelf>(
     ensures halted { IfErr result (Halts IsNoFault
         (FailsFor S.held S.faults S.sound shelf.old shelf.new (LacksNamed (older_named (how_seen how.entry))))) }
     ensures stays { StaysShelf S.held S.faults S.sound shelf.old shelf.new }
+    ensures begins { BeginsOnly (λ name. older_named (how_seen how.entry) ≡ Some name) (S.names shelf.old) (S.names shelf.new) }
 {
     match how {
         How::Follow(rule) => Ok(Prepared::Ruled(Course::Cold(rule))),
@@ -94,6 +96,7 @@ fn read_named<R: Threads + Sync, S: Shelf>(
     ensures halted { IfErr result (Halts IsNoFault
         (FailsFor S.held S.faults S.sound shelf.old shelf.new (LacksFile name.now))) }
     ensures stays { StaysShelf S.held S.faults S.sound shelf.old shelf.new }
+    ensures begins { BeginsOnly (λ other. other ≡ name.now) (S.names shelf.old) (S.names shelf.new) }
 {
     match read_whole(alloc, shelf, name, MOST_CERTIFICATE_BYTES as u64) {
         Ok(bytes) => Ok(reading_of(said_of(rt, alloc, instance, how, &bytes)?)),

@@ -1,10 +1,12 @@
 //! The command `report`: an instance and a certificate from their files to what the certified network costs.
 
 ghost use Rattle.std.specs.Prelude.{◌≡◌, ◌⊎◌, ◌≤◌, length, IfOk, IfErr};
+ghost use Rattle.hub_io.specs.Outside.{BeginsOnly};
 ghost use Rattle.cert_spec.specs.Verdicts.{certificate_limit};
 ghost use Rattle.hub_words.specs.Requests.{AreSources, AsksListed};
 ghost use Rattle.hub_words.specs.Views.{source_of};
 ghost use Rattle.hub_top.specs.Commands.{LacksSource, LacksCertificate};
+ghost use Rattle.hub_top.specs.Named.{IsFileOf};
 ghost use Rattle.hub_top.specs.Outcomes.{FailsFor, StaysShelf};
 ghost use Rattle.hub_top.specs.Halts.{Halts, IsOfSource};
 ghost use Rattle.hub_top.specs.Judging.{IsNoFault};
@@ -47,6 +49,7 @@ pub fn report<R: Threads + Sync, S: Shelf>(
         (FailsFor S.held S.faults S.sound shelf.old shelf.new
         (λ files. LacksSource files (source_of source.now) ⊎ LacksCertificate files (source_of source.now) certificate.now))) }
     ensures stays { StaysShelf S.held S.faults S.sound shelf.old shelf.new }
+    ensures begins { BeginsOnly (λ name. IsFileOf (source_of source.now) name ⊎ (name ≡ certificate.now)) (S.names shelf.old) (S.names shelf.new) }
 {
     let instance = read_instance(alloc, source, shelf)?;
     match read_file(rt, alloc, &instance, certificate, shelf)? {
@@ -67,6 +70,7 @@ fn read_file<R: Threads + Sync, S: Shelf>(
     ensures halted { IfErr result (Halts IsNoFault
         (FailsFor S.held S.faults S.sound shelf.old shelf.new (LacksFile certificate.now))) }
     ensures stays { StaysShelf S.held S.faults S.sound shelf.old shelf.new }
+    ensures begins { BeginsOnly (λ name. name ≡ certificate.now) (S.names shelf.old) (S.names shelf.new) }
 {
     match read_whole(alloc, shelf, certificate, MOST_CERTIFICATE_BYTES as u64) {
         Ok(bytes) => Ok(read_bytes(rt, alloc, instance, &bytes)?),

@@ -1,10 +1,12 @@
 //! The commands that solve an instance: from its files to what is found for it, as it is asked for.
 
 ghost use Rattle.std.specs.Prelude.{◌≡◌, ◌⊎◌, IfOk, IfErr};
+ghost use Rattle.hub_io.specs.Outside.{BeginsOnly};
 ghost use Rattle.hub_spec.specs.Plans.{IsCandidateSet};
-ghost use Rattle.hub_words.specs.Requests.{AreSources, AsksListed, IsSearch, IsSolving};
+ghost use Rattle.hub_words.specs.Requests.{AreSources, AsksListed, IsSearch, IsSolving, solve};
 ghost use Rattle.hub_words.specs.Views.{search_seen, solving_of, source_of};
 ghost use Rattle.hub_top.specs.Commands.{LacksOlder, LacksSource};
+ghost use Rattle.hub_top.specs.Named.{Names};
 ghost use Rattle.hub_top.specs.Outcomes.{FailsFor, StaysShelf};
 ghost use Rattle.hub_top.specs.Halts.{Halts, IsOfSource};
 ghost use Rattle.hub_top.specs.Solving.{ComesTo};
@@ -19,7 +21,7 @@ use cert_checker::Ending;
 use hub_io::{Gate, Shelf};
 use hub_model::Instance;
 use hub_words::Solving;
-use kept_cuts::Found;
+use cut_pool::Found;
 use plan_model::HubSet;
 use std::alloc::{AllocError, Global};
 use std::thread::Threads;
@@ -56,6 +58,7 @@ pub fn solve<R: Threads + Sync, S: Shelf, G: Gate>(
         (FailsFor S.held S.faults S.sound shelf.old shelf.new
         (λ files. LacksSource files (source_of asked.now.source) ⊎ LacksOlder files (solving_of asked.now)))) }
     ensures stays { StaysShelf S.held S.faults S.sound shelf.old shelf.new }
+    ensures begins { BeginsOnly (Names (solve (solving_of asked.now))) (S.names shelf.old) (S.names shelf.new) }
 {
     let instance = read_instance(alloc, &asked.source, shelf)?;
     if let Some((i, j)) = lacking(&instance, &all_candidates(alloc, &instance)?) {

@@ -1,13 +1,14 @@
 //! The top call.
 
 ghost use Rattle.std.specs.Prelude.{◌≡◌, ◌⊎◌, IfOk, IfSome, None, Some};
-ghost use Rattle.hub_io.specs.Outside.{Rose};
+ghost use Rattle.hub_io.specs.Outside.{Rose, BeginsOnly};
 ghost use Rattle.hub_words.specs.Words as spec;
-ghost use Rattle.hub_words.specs.Requests.{AreSources, AsksListed, IsMaking, IsSearch, IsSolving, Request, instance, making_of, search_of, solved};
+ghost use Rattle.hub_words.specs.Requests.{AreSources, AsksListed, IsMaking, IsSearch, IsSolving, instance, making_of, search_of, solved};
 ghost use Rattle.hub_words.specs.Views.{request_of, texts};
 ghost use Rattle.hub_top.specs.Views.{CanBeWritten, came_to, ended};
 ghost use Rattle.hub_top.specs.Outcomes.{Outcome, MayComeTo, ShelfFails, Quiet, Written};
 ghost use Rattle.hub_top.specs.Meanings.{Means};
+ghost use Rattle.hub_top.specs.Named.{AreNaming, NameNone, Names};
 ghost use Rattle.hub_top.specs.Completeness.{Completeness};
 ghost use Rattle.hub_top.specs.Headline.{Headline};
 
@@ -28,7 +29,8 @@ use std::thread::Threads;
 /// Runs the command that the words give, of which the first is the program's name.
 ///
 /// It reads and decides first, takes the room that the writing needs, and then writes: the answer of the command on `out`,
-/// or what hinders it on `err`. `make` and `demo` call nothing on the shelf. The runtime serves the workers of a
+/// or what hinders it on `err`. Words that are no command, `make` and `demo` call nothing on the shelf, and the others begin only
+/// files that the words name. The runtime serves the workers of a
 /// search and of a certificate's text, the gate those of a search: no clause reads them, nor the number of workers, and out
 /// takes the same text whatever they are. With core cuts `solve` writes the third version of a certificate's text, in
 /// which each core cut has its mark, its hub set and a proof of each dual; else the first or the second, with no mark.
@@ -62,7 +64,8 @@ pub fn run<R: Threads + Sync, S: Shelf, O: Sink, E: Sink, G: Gate>(
     ensures headline { Headline (spec.asked (texts words.now)) (S.held shelf.old) (O.taken out.old) (O.taken out.new)
         (Quiet S.faults shelf.old shelf.new O.faults out.old out.new E.faults err.old err.new) result }
     ensures same { S.held shelf.new ≡ S.held shelf.old }
-    ensures untouched { (request : Request) → spec.asked (texts words.now) ≡ Some request → instance request ≡ None → shelf.new ≡ shelf.old }
+    ensures begins { BeginsOnly (AreNaming (spec.asked (texts words.now))) (S.names shelf.old) (S.names shelf.new) }
+    ensures untouched { NameNone (spec.asked (texts words.now)) → shelf.new ≡ shelf.old }
 {
     let settled = settle(rt, alloc, words, shelf, gate);
     let intended = intend(alloc, &settled);
@@ -81,7 +84,8 @@ fn settle<R: Threads + Sync, S: Shelf, G: Gate>(
         (ShelfFails S.held S.faults S.sound shelf.old shelf.new) (came_to result) }
     ensures writable { CanBeWritten result }
     ensures same { S.held shelf.new ≡ S.held shelf.old }
-    ensures untouched { (request : Request) → spec.asked (texts words.now) ≡ Some request → instance request ≡ None → shelf.new ≡ shelf.old }
+    ensures begins { BeginsOnly (AreNaming (spec.asked (texts words.now))) (S.names shelf.old) (S.names shelf.new) }
+    ensures untouched { NameNone (spec.asked (texts words.now)) → shelf.new ≡ shelf.old }
 {
     match asked(alloc, words) {
         Err(_) => Settled::Halted(Halt::Memory),
@@ -110,6 +114,7 @@ fn answer<R: Threads + Sync, S: Shelf, G: Gate>(
         (ShelfFails S.held S.faults S.sound shelf.old shelf.new) (ended result) }
     ensures writable { IfOk result CanBeWritten }
     ensures same { S.held shelf.new ≡ S.held shelf.old }
+    ensures begins { BeginsOnly (Names (request_of command.now)) (S.names shelf.old) (S.names shelf.new) }
     ensures untouched { instance (request_of command.now) ≡ None → shelf.new ≡ shelf.old }
 {
     match command {

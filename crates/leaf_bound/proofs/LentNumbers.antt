@@ -1,21 +1,22 @@
 -- What the limits of the lent numbers keep: weighted sums, gains and bounds.
-use Rattle.std.proofs.Common.{◌≡◌, ℕ, ℤ, pos, suc, ◌+◌, ◌*◌, ◌/◌, ◌<◌, ◌≤◌, ◌+ℤ◌, ◌^◌, FitsSigned, to_z, of_z, List, [], ◌∷◌, length, get_or, take, map, All, refl, sym, subst, ap, ap₂, ◌∙◌, arith}
+use Rattle.std.proofs.Common.{◌≡◌, ℕ, ℤ, pos, suc, ◌+◌, ◌*◌, ◌/◌, ◌<◌, ◌≤◌, ◌+ℤ◌, ◌-ℤ◌, ◌^◌, FitsSigned, to_z, of_z, List, [], ◌∷◌, length, get_or, take, map, All, refl, sym, subst, ap, ap₂, ◌∙◌, arith}
 use Rattle.std.specs.Int.{w128, int_min}
 use Rattle.std.specs.List.{AllZip}
 use Rattle.std.specs.List.Sorted.{IsStrictlyIncreasing}
 use Rattle.std.proofs.Math.Nat.{zero-div}
 use Rattle.std.proofs.lemmas.Int.{ints, clamps, to_z-of_z}
 use Rattle.std.proofs.lemmas.List.{length-map, get_or-map, take_more}
-use Rattle.std.proofs.lemmas.List.Elements.{All-nil, All-cons, All-get_or, All-weaker}
-use Rattle.hub_spec.specs.Limits.{most_nodes, most_part}
+use Rattle.std.proofs.lemmas.List.Elements.{All-get_or, All-weaker}
+use Rattle.std.proofs.lemmas.Nat.{mul-le}
+use Rattle.hub_spec.specs.Limits.{most_nodes, most_cost, most_part, most_denominator}
 use Rattle.hub_spec.specs.Sums.{sum_ints}
 use Rattle.hub_spec.specs.Trees.{Branching, branch_bound}
 use Rattle.hub_spec.proofs.Limits.{few_candidates}
 use Rattle.hub_spec.proofs.SumLemmas.{sum_ints-append}
 use Rattle.leaf_bound.specs.declared.weightings.Weighting as lent
-use Rattle.leaf_bound.specs.Bounds.{Weighting, weighted_total, gain_of, bound_of}
-use Rattle.leaf_bound.specs.Numbers.{rows_of, IsSumOf, AreSumsOf, AreWeightingNumbers, IsBranchBelow}
-use Rattle.leaf_bound.specs.Weighing.{most_gain, most_bound, share_at, AreWeighed, AreWeighedLoads, IsWeighedTo, AreLoadsTo, column, IsWithin}
+use Rattle.leaf_bound.specs.Bounds.{loads_of, weighted_total, gain_of, bound_of}
+use Rattle.leaf_bound.specs.Numbers.{rows_of, IsSumOf, AreWeightingNumbers, IsNodeWithin, IsBranchWithin, weighting_of}
+use Rattle.leaf_bound.specs.Weighing.{most_gain, most_bound, share_at, AreWeighed, IsWeighedTo, AreLoadsTo, IsWithin, IsGain, AreGains}
 use Rattle.leaf_bound.proofs.WeightedSums.{weighed_next, weighed_limit}
 
 length-zip : {A B : Type 0} (R : A → B → Type 0) (xs : List A) (ys : List B) → AllZip R xs ys → length xs ≡ length ys
@@ -23,20 +24,6 @@ length-zip R [] [] are = refl
 length-zip R [] (y ∷ ys) are = absurd are
 length-zip R (x ∷ xs) [] are = absurd are
 length-zip R (x ∷ xs) (y ∷ ys) are = omega (arith, length-zip R xs ys are.1)
-
-sums_column : (n k : ℕ) (parts : List ℕ) (loads : List (List ℕ)) → k < n → AllZip (AreSumsOf n) parts loads → AllZip IsSumOf parts (column loads k)
-sums_column n k [] [] node are = tt
-sums_column n k [] (row ∷ loads) node are = absurd are
-sums_column n k (part ∷ parts) [] node are = absurd are
-sums_column n k (part ∷ parts) (row ∷ loads) node are =
-    (All-get_or (IsSumOf part) row k 0 (omega (arith, are.0.0, node)) are.0.1, sums_column n k parts loads node are.1)
-
-rows_wide : (n : ℕ) (parts : List ℕ) (loads : List (List ℕ)) → AllZip (AreSumsOf n) parts loads → All (λ (row : List ℕ). n ≤ length row) loads
-rows_wide n [] [] are = All-nil (λ (row : List ℕ). n ≤ length row)
-rows_wide n [] (row ∷ loads) are = absurd are
-rows_wide n (part ∷ parts) [] are = absurd are
-rows_wide n (part ∷ parts) (row ∷ loads) are =
-    All-cons (λ (row : List ℕ). n ≤ length row) row loads (omega (arith, are.0.0)) (rows_wide n parts loads are.1)
 
 pub weighed_totals : (m : lent.Weighting) → AreWeightingNumbers m → AreWeighed m.weights.now m.parts.now m.totals.now
 weighed_totals m are = record {
@@ -47,26 +34,38 @@ weighed_totals m are = record {
   are_numbers = are.are_totals;
 }
 
-pub weighed_loads : (m : lent.Weighting) (n : ℕ) → AreWeightingNumbers m → n ≡ length m.fixed.now
-    → AreWeighedLoads m.weights.now m.parts.now (rows_of m) n
-weighed_loads m n are room =
+pub weighed_node : (m : lent.Weighting) (k : ℕ) → AreWeightingNumbers m → IsNodeWithin m k
+    → AreWeighed m.weights.now m.parts.now (loads_of (rows_of m) k)
+weighed_node m k are node =
     let totals = weighed_totals m are in
-    let sums : AllZip (AreSumsOf n) m.parts.now (rows_of m) =
-    subst (λ (n : ℕ). AllZip (AreSumsOf n) m.parts.now (rows_of m)) (sym room) are.are_loads in
-    let few : length m.weights.now ≤ length (rows_of m) =
-    omega (arith, totals.few_parts, length-zip (AreSumsOf n) m.parts.now (rows_of m) sums) in
     record {
-      few = few;
+      few = omega (arith, totals.few_parts, length-zip IsSumOf m.parts.now (loads_of (rows_of m) k) node.are_loads);
       few_parts = totals.few_parts;
-      wide = rows_wide n m.parts.now (rows_of m) sums;
-      weighed = λ k node. record {
-        few = omega (arith, few, length-map (rows_of m) (λ (row : List ℕ). get_or row k 0));
-        few_parts = totals.few_parts;
-        weights_limit = totals.weights_limit;
-        are_parts = totals.are_parts;
-        are_numbers = sums_column n k m.parts.now (rows_of m) node sums;
-      };
+      weights_limit = totals.weights_limit;
+      are_parts = totals.are_parts;
+      are_numbers = node.are_loads;
     }
+
+pub within_nodes : (m : lent.Weighting) (ks : List ℕ) → All (IsNodeWithin m) ks → All (λ k. k < length m.fixed.now) ks
+within_nodes m ks are = All-weaker (IsNodeWithin m) (λ k. k < length m.fixed.now) (λ k node. node.is_node) ks are
+
+pub gain_nodes : (gains : List ℤ) (ks : List ℕ) → All (IsGain gains) ks → All (λ k. k < length gains) ks
+gain_nodes gains ks are = All-weaker (IsGain gains) (λ k. k < length gains) (λ k gain. gain.is_node) ks are
+
+pub branch_gains : (m : lent.Weighting) (gains : List ℤ) (b : Branching) → ((k : ℕ) → IsNodeWithin m k → IsGain gains k) → IsBranchWithin m b
+    → AreGains gains b
+branch_gains m gains b limit within = record {
+  inside = All-weaker (IsNodeWithin m) (IsGain gains) limit b.inside within.inside;
+  free = All-weaker (IsNodeWithin m) (IsGain gains) limit b.free within.free;
+}
+
+-- ---- gains
+
+pub gain_limit : (denom fixed sum : ℕ) (z : ℤ) → denom ≤ most_denominator → fixed ≤ most_cost → sum ≤ most_gain
+    → z ≡ pos (denom * fixed) -ℤ pos sum → IsWithin most_gain z
+gain_limit denom fixed sum z few limit most is =
+    let product = mul-le denom fixed most_denominator most_cost few limit in
+    record { least = omega (arith, ints, is, most); most = omega (arith, ints, is, product) }
 
 -- ---- sums of gains
 
@@ -82,20 +81,23 @@ sum_ints_same g h (k ∷ ks) same =
     ap₂ (λ (x y : ℤ). x +ℤ y) (same 0 0 (omega arith)) (sum_ints_same g h ks (λ i d low. same (suc i) d (omega arith)))
 
 -- gains that are read are the nodes' own
-read : (g : ℕ → ℤ) (gains : List ℤ) (nodes : List ℕ) → All (λ k. k < length gains) nodes
-    → ((k : ℕ) → k < length gains → get_or gains k (pos 0) ≡ g k) → All (λ k. get_or gains k (pos 0) ≡ g k) nodes
-read g gains nodes below is = λ i d low. is (get_or nodes i d) (below i d low)
+abbrev pub AreGainsOf : lent.Weighting → List ℤ → Type 0
+AreGainsOf m gains = (k : ℕ) → IsNodeWithin m k → get_or gains k (pos 0) ≡ gain_of (weighting_of m) k
+
+pub read_gains : (m : lent.Weighting) (gains : List ℤ) (nodes : List ℕ) → AreGainsOf m gains → All (IsNodeWithin m) nodes
+    → All (λ k. get_or gains k (pos 0) ≡ gain_of (weighting_of m) k) nodes
+read_gains m gains nodes are within = λ i d low. are (get_or nodes i d) (within i d low)
 
 -- the bound by gains that are read, and by the sum of the totals, is the weighting's
-pub bound_read : (m : Weighting) (base : ℕ) (gains : List ℤ) (b : Branching) → base ≡ weighted_total m
-    → ((k : ℕ) → k < length gains → get_or gains k (pos 0) ≡ gain_of m k) → IsBranchBelow (length gains) b
-    → branch_bound base (λ k. get_or gains k (pos 0)) b ≡ bound_of m b
-bound_read m base gains b total is below =
+pub bound_read : (m : lent.Weighting) (base : ℕ) (gains : List ℤ) (b : Branching) → base ≡ weighted_total (weighting_of m)
+    → AreGainsOf m gains → IsBranchWithin m b → branch_bound base (λ k. get_or gains k (pos 0)) b ≡ bound_of (weighting_of m) b
+bound_read m base gains b total are within =
     let by : ℕ → ℤ = λ k. get_or gains k (pos 0) in
-    let free = read (gain_of m) gains b.free below.free is in
+    let own = gain_of (weighting_of m) in
+    let free = read_gains m gains b.free are within.free in
     ap₂ (λ (x y : ℤ). x +ℤ y)
-    (ap₂ (λ (x : ℕ) (y : ℤ). pos x +ℤ y) total (sum_ints_same by (gain_of m) b.inside (read (gain_of m) gains b.inside below.inside is)))
-    (sum_ints_same (λ k. int_min (pos 0) (by k)) (λ k. int_min (pos 0) (gain_of m k)) b.free (λ i d low. ap (int_min (pos 0)) (free i d low)))
+    (ap₂ (λ (x : ℕ) (y : ℤ). pos x +ℤ y) total (sum_ints_same by own b.inside (read_gains m gains b.inside are within.inside)))
+    (sum_ints_same (λ k. int_min (pos 0) (by k)) (λ k. int_min (pos 0) (own k)) b.free (λ i d low. ap (int_min (pos 0)) (free i d low)))
 
 -- so many gains are within so many times the limit
 pub record IsSumTo (g : ℕ → ℤ) (ks : List ℕ) (i : ℕ) (so_far : ℤ) : Type 0 where
@@ -189,55 +191,41 @@ row_at : {V : Type 0} (f : V → List ℕ) (vs : List V) (c : ℕ) (v : V) → c
 row_at f vs c v low is = get_or-map f vs c v [] low ∙ ap f (sym is)
 
 pub row_long : {V : Type 0} (f : V → List ℕ) (vs : List V) (c n : ℕ) (v : V) → c < length vs → v ≡ get_or vs c v
-    → All (λ row. n ≤ length row) (map f vs) → n ≤ length (f v)
+    → All (λ row. length row ≡ n) (map f vs) → n ≤ length (f v)
 row_long f vs c n v low is wide =
-    let here = All-get_or (λ (row : List ℕ). n ≤ length row) (map f vs) c [] (omega (arith, length-map vs f, low)) wide in
+    let here = All-get_or (λ (row : List ℕ). length row ≡ n) (map f vs) c [] (omega (arith, length-map vs f, low)) wide in
     omega (arith, here, ap length (row_at f vs c v low is))
 
 pub load_at : {V : Type 0} (f : V → List ℕ) (vs : List V) (c k : ℕ) (v : V) → c < length vs → v ≡ get_or vs c v
-    → get_or (column (map f vs) k) c 0 ≡ get_or (f v) k 0
+    → get_or (loads_of (map f vs) k) c 0 ≡ get_or (f v) k 0
 load_at f vs c k v low is =
     get_or-map (λ (row : List ℕ). get_or row k 0) (map f vs) c [] 0 (omega (arith, length-map vs f, low))
     ∙ ap (λ (row : List ℕ). get_or row k 0) (row_at f vs c v low is)
 
 -- ---- the loads of a cut
 
-pub loads_kept : (ws es : List ℕ) (rows : List (List ℕ)) (i : ℕ) (sums : List ℕ) → i < length ws → AreWeighedLoads ws es rows (length sums)
+pub loads_kept : (ws es : List ℕ) (rows : List (List ℕ)) (i : ℕ) (sums : List ℕ) → i < length ws
     → get_or ws i 0 ≡ 0 → AreLoadsTo ws es rows i sums → AreLoadsTo ws es rows (i + 1) sums
-loads_kept ws es rows i sums low are none before = record {
-  each = λ k less.
-      let same : get_or sums k 0 + 0 * get_or (column rows k) i 0 ≡ get_or sums k 0 = omega arith in
+loads_kept ws es rows i sums low none before = record {
+  each = λ k less are.
+      let same : get_or sums k 0 + 0 * get_or (loads_of rows k) i 0 ≡ get_or sums k 0 = omega arith in
       let share : 0 ≡ share_at ws es i = sym (ap (λ (w : ℕ). w / get_or es i 0) none ∙ zero-div (get_or es i 0)) in
-      subst (IsWeighedTo ws es (column rows k) (i + 1)) same
-      (weighed_next ws es (column rows k) i (get_or sums k 0) 0 low (are.weighed k less) share (before.each k less));
+      subst (IsWeighedTo ws es (loads_of rows k) (i + 1)) same
+      (weighed_next ws es (loads_of rows k) i (get_or sums k 0) 0 low are share (before.each k less are));
 }
 
-next : (ws es : List ℕ) (rows : List (List ℕ)) (i : ℕ) (sums : List ℕ) (w : ℕ) (row : List ℕ) (k : ℕ)
-    → i < length ws → AreWeighedLoads ws es rows (length sums)
-    → w ≡ share_at ws es i → get_or (column rows k) i 0 ≡ get_or row k 0 → AreLoadsTo ws es rows i sums → k < length sums
-    → IsWeighedTo ws es (column rows k) (i + 1) (get_or sums k 0 + w * get_or row k 0)
-next ws es rows i sums w row k low are weight at before less =
-    subst (λ (v : ℕ). IsWeighedTo ws es (column rows k) (i + 1) (get_or sums k 0 + w * v)) at
-    (weighed_next ws es (column rows k) i (get_or sums k 0) w low (are.weighed k less) weight (before.each k less))
-
-pub loads_fit : (ws es : List ℕ) (rows : List (List ℕ)) (i : ℕ) (sums : List ℕ) (w : ℕ) (row : List ℕ) (k : ℕ)
-    → i < length ws → AreWeighedLoads ws es rows (length sums)
-    → w ≡ share_at ws es i → get_or (column rows k) i 0 ≡ get_or row k 0 → AreLoadsTo ws es rows i sums → k < length sums
-    → get_or sums k 0 + w * get_or row k 0 < 2 ^ 128
-loads_fit ws es rows i sums w row k low are weight at before less =
-    omega (
-      arith,
-      weighed_limit ws es (column rows k) (i + 1) (get_or sums k 0 + w * get_or row k 0) (are.weighed k less)
-          (next ws es rows i sums w row k low are weight at before less),
-    )
-
 pub loads_added : (ws es : List ℕ) (rows : List (List ℕ)) (i : ℕ) (sums new : List ℕ) (w : ℕ) (row : List ℕ)
-    → i < length ws → AreWeighedLoads ws es rows (length sums)
-    → w ≡ share_at ws es i → ((k : ℕ) → k < length sums → get_or (column rows k) i 0 ≡ get_or row k 0) → AreLoadsTo ws es rows i sums
-    → length new ≡ length sums → ((k : ℕ) → k < length sums → get_or new k 0 ≡ get_or sums k 0 + w * get_or row k 0)
+    → i < length ws → w ≡ share_at ws es i → ((k : ℕ) → get_or (loads_of rows k) i 0 ≡ get_or row k 0) → AreLoadsTo ws es rows i sums
+    → length new ≡ length sums
+    → ((k : ℕ) → k < length sums → get_or sums k 0 + w * get_or row k 0 < 2 ^ 128 → get_or new k 0 ≡ get_or sums k 0 + w * get_or row k 0)
     → AreLoadsTo ws es rows (i + 1) new
-loads_added ws es rows i sums new w row low are weight at before long added = record {
-  each = λ k below.
+loads_added ws es rows i sums new w row low weight at before long added = record {
+  each = λ k below are.
       let less : k < length sums = omega (arith, below, long) in
-      subst (IsWeighedTo ws es (column rows k) (i + 1)) (sym (added k less)) (next ws es rows i sums w row k low are weight (at k less) before less);
+      let sum = get_or sums k 0 + w * get_or row k 0 in
+      let next : IsWeighedTo ws es (loads_of rows k) (i + 1) sum =
+      subst (λ (v : ℕ). IsWeighedTo ws es (loads_of rows k) (i + 1) (get_or sums k 0 + w * v)) (at k)
+      (weighed_next ws es (loads_of rows k) i (get_or sums k 0) w low are weight (before.each k less are)) in
+      let fits : sum < 2 ^ 128 = omega (arith, weighed_limit ws es (loads_of rows k) (i + 1) sum are next) in
+      subst (IsWeighedTo ws es (loads_of rows k) (i + 1)) (sym (added k less fits)) next;
 }

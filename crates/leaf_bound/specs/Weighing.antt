@@ -1,8 +1,9 @@
 -- The weighted sums and the gains that a bound is made of, over the numbers as they come in.
-use Rattle.std.specs.Prelude.{◌≡◌, ℕ, take, ◌+◌, ◌*◌, ◌/◌, ◌<◌, ◌≤◌, ℤ, pos, ◌-ℤ◌, ◌≤ℤ◌, List, length, map, sum, slice_index, All}
+use Rattle.std.specs.Prelude.{◌≡◌, ℕ, take, ◌+◌, ◌*◌, ◌/◌, ◌<◌, ◌≤◌, ℤ, pos, ◌-ℤ◌, ◌≤ℤ◌, List, length, sum, slice_index, All}
 use Rattle.std.specs.List.{AllZip, slice_index_or}
 use Rattle.hub_spec.specs.Limits.{most_nodes, most_cost, most_denominator}
-use Rattle.leaf_bound.specs.Bounds.{weighted_by, shares_of}
+use Rattle.hub_spec.specs.Trees.{Branching}
+use Rattle.leaf_bound.specs.Bounds.{weighted_by, shares_of, loads_of}
 use Rattle.leaf_bound.specs.Numbers.{IsSumOf}
 
 -- what a weighted sum is at most, and so a gain in size
@@ -25,27 +26,27 @@ pub record AreWeighed (weights parts numbers : List ℕ) : Type 0 where
   pub are_parts : All (λ part. 1 ≤ part) parts
   pub are_numbers : AllZip IsSumOf parts numbers
 
--- the numbers of the node, one of each row
-abbrev pub column : List (List ℕ) → ℕ → List ℕ
-column rows k = map (λ row. slice_index_or row k 0) rows
-
--- weights on the cuts' loads of the first n nodes
-pub record AreWeighedLoads (weights parts : List ℕ) (loads : List (List ℕ)) (n : ℕ) : Type 0 where
-  pub few : length weights ≤ length loads
-  pub few_parts : length weights ≤ length parts
-  pub wide : All (λ row. n ≤ length row) loads
-  pub weighed : (k : ℕ) → k < n → AreWeighed weights parts (column loads k)
-
 -- the weighted sum of the first i numbers, and what it is at most
 pub record IsWeighedTo (weights parts numbers : List ℕ) (i so_far : ℕ) : Type 0 where
   pub value : so_far ≡ weighted_by (take i (shares_of weights parts)) numbers
   pub limit : so_far ≤ sum (take i weights) * most_cost
 
--- for each node that has a sum, that of the first i cuts' loads
+-- for each node that has a sum, that of the first i cuts' loads, where these are within their limits
 pub record AreLoadsTo (weights parts : List ℕ) (loads : List (List ℕ)) (i : ℕ) (sums : List ℕ) : Type 0 where
-  pub each : (k : ℕ) → k < length sums → IsWeighedTo weights parts (column loads k) i (slice_index_or sums k 0)
+  pub each : (k : ℕ) → k < length sums → AreWeighed weights parts (loads_of loads k)
+      → IsWeighedTo weights parts (loads_of loads k) i (slice_index_or sums k 0)
 
 -- the number is at most the limit in size
 pub record IsWithin (limit : ℕ) (z : ℤ) : Type 0 where
   pub least : (pos 0 -ℤ pos limit) ≤ℤ z
   pub most : z ≤ℤ pos limit
+
+-- the node has a gain in the list, within the limit of a gain
+pub record IsGain (gains : List ℤ) (k : ℕ) : Type 0 where
+  pub is_node : k < length gains
+  pub limit : IsWithin most_gain (slice_index_or gains k (pos 0))
+
+-- so has each node of the branch that its bound looks at
+pub record AreGains (gains : List ℤ) (b : Branching) : Type 0 where
+  pub inside : All (IsGain gains) b.inside
+  pub free : All (IsGain gains) b.free

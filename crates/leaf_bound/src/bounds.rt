@@ -4,8 +4,8 @@ ghost use Rattle.std.specs.Prelude.{◌≡◌, ℕ, ◌^◌, ◌*◌, ◌↔◌,
 ghost use Rattle.hub_spec.specs.Limits.{most_nodes, most_denominator};
 ghost use Rattle.hub_spec.specs.Trees.{Closes, branch_bound};
 ghost use Rattle.leaf_bound.specs.Bounds.{bound_of};
-ghost use Rattle.leaf_bound.specs.Numbers.{AreWeightingNumbers, IsBranchBelow, weighting_of};
-ghost use Rattle.leaf_bound.specs.Weighing.{most_gain, most_bound, IsWithin};
+ghost use Rattle.leaf_bound.specs.Numbers.{AreWeightingNumbers, IsBranchWithin, weighting_of};
+ghost use Rattle.leaf_bound.specs.Weighing.{most_gain, most_bound, IsWithin, AreGains};
 
 use crate::Weighting;
 use crate::gains::{ROOM, sum_of_gains, sum_of_losses, write_gains_and_base};
@@ -15,7 +15,7 @@ use plan_model::Branch;
 /// The bound of the branch under these weights, in 10^-12, times the denominator.
 pub fn bound(weighting: &Weighting, branch: &Branch) -> i128
     requires numbers { AreWeightingNumbers weighting.now }
-    requires nodes { IsBranchBelow (length weighting.now.fixed.now) branch.now }
+    requires nodes { IsBranchWithin weighting.now branch.now }
     ensures value { result ≡ bound_of (weighting_of weighting.now) branch.now }
     ensures limit { IsWithin most_bound result }
 {
@@ -28,9 +28,8 @@ pub fn bound(weighting: &Weighting, branch: &Branch) -> i128
 /// The bound of the branch by the gain of each node and the weighted sum of the cuts' totals.
 pub fn bound_by(base: u128, gains: &[i128], branch: &Branch) -> i128
     requires base { base ≤ most_gain }
-    requires gains { (k : ℕ) → k < length gains.now → IsWithin most_gain (slice_index_or gains.now k (pos 0)) }
+    requires gains { AreGains gains.now branch.now }
     requires few { length gains.now ≤ most_nodes }
-    requires nodes { IsBranchBelow (length gains.now) branch.now }
     ensures value { result ≡ branch_bound base (λ k. slice_index_or gains.now k (pos 0)) branch.now }
     ensures limit { IsWithin most_bound result }
 {
@@ -46,7 +45,7 @@ pub fn bound_by(base: u128, gains: &[i128], branch: &Branch) -> i128
 /// branch then costs less than the target.
 pub fn closes(weighting: &Weighting, branch: &Branch, target: u128) -> bool
     requires numbers { AreWeightingNumbers weighting.now }
-    requires nodes { IsBranchBelow (length weighting.now.fixed.now) branch.now }
+    requires nodes { IsBranchWithin weighting.now branch.now }
     requires target { target ≤ 10 ^ 30 }
     ensures { IsTrue result ↔ Closes weighting.now.denom target (bound_of (weighting_of weighting.now) branch.now) }
 {

@@ -1,8 +1,10 @@
 //! Weighted sums over the cuts. Most weights of a large pool are 0: a cut that has none is not looked at.
+//!
+//! Loads of nodes that are no candidates may be any numbers. So sums and products wrap: what a bound reads does not.
 
 ghost use Rattle.std.specs.Prelude.{◌≡◌, ℕ, ◌+◌, ◌*◌, ◌/◌, ◌<◌, ◌≤◌, ◌^◌, length, slice_index_or};
 ghost use Rattle.leaf_bound.specs.Bounds.{weighted_total, weighted_load};
-ghost use Rattle.leaf_bound.specs.Numbers.{AreWeightingNumbers, rows_of, weighting_of};
+ghost use Rattle.leaf_bound.specs.Numbers.{AreWeightingNumbers, IsNodeWithin, rows_of, weighting_of};
 ghost use Rattle.leaf_bound.specs.Weighing.{most_gain, share_at, AreLoadsTo};
 
 use crate::Weighting;
@@ -14,8 +16,8 @@ pub(crate) fn weigh(weighting: &Weighting, sums: &mut [u128]) -> u128
     requires room { length sums.old ≡ length weighting.now.fixed.now }
     ensures base { result ≡ weighted_total (weighting_of weighting.now) }
     ensures base_limit { result ≤ most_gain }
-    ensures value { (k : ℕ) → k < length sums.new → slice_index_or sums.new k 0 ≡ weighted_load (weighting_of weighting.now) k }
-    ensures limit { (k : ℕ) → k < length sums.new → slice_index_or sums.new k 0 ≤ most_gain }
+    ensures value { (k : ℕ) → IsNodeWithin weighting.now k → slice_index_or sums.new k 0 ≡ weighted_load (weighting_of weighting.now) k }
+    ensures limit { (k : ℕ) → IsNodeWithin weighting.now k → slice_index_or sums.new k 0 ≤ most_gain }
 {
     clear(sums);
     let mut base = 0;
@@ -62,15 +64,13 @@ fn share_of(weight: u128, part: u32) -> u128
     weight / u128::from(part)
 }
 
-// Adds the products of the share and the row's numbers.
+// Adds the products of the share and the row's numbers, as far as they fit.
 fn add_products(sums: &mut [u128], share: u128, row: &[u128])
-    requires long { length sums.old ≤ length row.now }
-    requires fit { (k : ℕ) → k < length sums.old
-        → slice_index_or sums.old k 0 + share * slice_index_or row.now k 0 < 2 ^ 128 }
-    ensures { (k : ℕ) → k < length sums.old → slice_index_or sums.new k 0
-        ≡ slice_index_or sums.old k 0 + share * slice_index_or row.now k 0 }
+    requires { length sums.old ≤ length row.now }
+    ensures { (k : ℕ) → k < length sums.old → slice_index_or sums.old k 0 + share * slice_index_or row.now k 0 < 2 ^ 128
+        → slice_index_or sums.new k 0 ≡ slice_index_or sums.old k 0 + share * slice_index_or row.now k 0 }
 {
     for k in 0..sums.len() {
-        sums[k] += share * row[k];
+        sums[k] = sums[k].wrapping_add(share.wrapping_mul(row[k]));
     }
 }

@@ -46,6 +46,8 @@ impl<R: Files> Shelf for DiskShelf<'_, R> {
 
     ghost left = { λ _. None };
 
+    ghost names = { λ _. None };
+
     ghost faults = { λ s. s.faults };
 
     ghost sound = { λ _. ⊥ };

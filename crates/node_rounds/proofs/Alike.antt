@@ -7,8 +7,8 @@ use Rattle.hub_spec.specs.Problem.{Problem}
 use Rattle.plan_model.specs.declared.tree_lines.TreeLine as model
 use Rattle.plan_model.specs.Lines.{tree_line_of}
 use Rattle.hub_spec.specs.Trees.{TreeLine, Branching}
-use Rattle.kept_cuts.specs.Findings.{lines_of}
-use Rattle.kept_cuts.proofs.KeptCutLaws.{kept_part_is}
+use Rattle.cut_pool.specs.Findings.{lines_of}
+use Rattle.cut_pool.proofs.KeptCutLaws.{kept_part_is}
 use Rattle.cut_pool.specs.Entries.{Entry, entry_part}
 use Rattle.leaf_bound.specs.Bounds.{AreMultiples}
 use Rattle.search_spec.specs.States.{State}

@@ -7,7 +7,7 @@ use Rattle.hub_spec.specs.Problem.{Problem}
 use Rattle.hub_spec.specs.Trees.{TreeLine, preorder}
 use Rattle.plan_model.specs.declared.tree_lines.TreeLine as model
 use Rattle.plan_model.specs.Lines.{tree_line_of}
-use Rattle.kept_cuts.specs.Findings.{lines_of}
+use Rattle.cut_pool.specs.Findings.{lines_of}
 use Rattle.search_spec.specs.States.{State, Parts, Grown}
 use Rattle.search_spec.specs.Steps.{unless_ended, stopped_leaf}
 use Rattle.search_steps.specs.Advising.{parts_of}

@@ -12,7 +12,7 @@ use Rattle.search_spec.specs.States.{denominator, State, Advice, Parts, Grown, w
 use Rattle.search_spec.specs.Steps.{closes_at, better, may_split, two_more, stopped_leaf, Side, stays_open, stays_closed, fixings, unless_ended}
 use Rattle.search_spec.specs.Laws.{IsStart}
 use Rattle.search_spec.specs.Choices.{all_closed, barren_end}
-use Rattle.kept_cuts.specs.Findings.{IsUnlimited}
+use Rattle.cut_pool.specs.Findings.{IsUnlimited}
 use Rattle.search_steps.specs.Advising.{parts_of}
 use Rattle.search_steps.proofs.OpenBranches.{never_blocked}
 use Rattle.search_steps.proofs.RuleChoices.{parts_sound, barren_is, some_open}

@@ -4,7 +4,7 @@ use Rattle.std.proofs.lemmas.List.Elements.{All-nil, All-cons, All-head, All-tai
 use Rattle.std.proofs.lemmas.List.{map-append, length_push}
 use Rattle.plan_model.specs.declared.tree_lines.TreeLine as model
 use Rattle.plan_model.specs.Lines.{tree_line_of}
-use Rattle.kept_cuts.specs.Findings.{lines_of}
+use Rattle.cut_pool.specs.Findings.{lines_of}
 use Rattle.rounds_spec.specs.Places as places
 use Rattle.node_rounds.specs.declared.outcomes.Pending.{Pending}
 use Rattle.node_rounds.specs.declared.fronts.Place.{Place}

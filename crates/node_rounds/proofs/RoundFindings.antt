@@ -4,16 +4,19 @@ use Rattle.hub_spec.specs.Problem.{Problem, IsProblem}
 use Rattle.search_spec.specs.States.{State}
 use Rattle.search_spec.specs.Laws.{IsStart}
 use Rattle.search_spec.specs.Choices.{begun_for}
+use Rattle.search_spec.specs.Costs.{IsAtMostOf, first_hubs}
+use Rattle.search_spec.proofs.FallingCosts.{least_to, begun_most}
 use Rattle.search_steps.specs.Advising.{parts_of}
-use Rattle.separators.specs.Kinds.{CutKind, minimal, parts_for}
+use Rattle.search_progress.specs.Kinds.{CutKind, minimal, parts_for}
 use Rattle.search_steps.proofs.RuleChoices.{parts_sound}
-use Rattle.kept_cuts.specs.Findings.{AreRemade}
-use Rattle.kept_cuts.specs.declared.found.Found.{Found}
+use Rattle.cut_pool.specs.Findings.{AreRemade}
+use Rattle.cut_pool.specs.declared.found.Found.{Found}
 use Rattle.search_progress.specs.Findings.{IsFound}
 use Rattle.search_progress.proofs.KeptPools.{own_by_sets}
 use Rattle.search_progress.proofs.FoundCertificates.{start_of, IsSearchable, start_is, IsSearched}
 use Rattle.rounds_spec.specs.Lasting.{searched_by_rounds, rule_by_rounds}
 use Rattle.rounds_spec.proofs.WholeRounds.{search_proof, search_counted, search_stopped, enough_nodes}
+use Rattle.rounds_spec.proofs.Costs.{cost_falls}
 use Rattle.node_rounds.specs.Findings.{found_by_rounds}
 use Rattle.node_rounds.proofs.OfSets.{rule_rounds_own}
 use Rattle.node_rounds.proofs.FirstPlaces.{rounds_first}
@@ -36,6 +39,13 @@ rounds_from p n s ok start =
 pub rounds_searched : (p : Problem) (n : Option ℕ) → IsSearchable p → IsSearched p n (found_by_rounds p n)
 unfolding rule_by_rounds
 rounds_searched p n ok = rounds_from p n (start_of p) ok.problem (start_is p ok)
+
+-- what is found costs at most what all candidates do
+pub rounds_at_most : (p : Problem) (n : Option ℕ) → IsSearchable p → IsAtMostOf p (first_hubs p) (found_by_rounds p n).state.cost
+unfolding rule_by_rounds
+rounds_at_most p n ok =
+    least_to p (first_hubs p) (found_by_rounds p n).state.cost (start_of p).cost (cost_falls p (parts_of p) n (start_of p))
+    (begun_most p (parts_of p) ok.lacks_none (parts_sound p ok.problem))
 
 -- each cut that is found is made anew: it is of a set, and not marked
 pub rounds_remade : (p : Problem) (n : Option ℕ) (found : Found) → IsSearchable p → IsFound p (found_by_rounds p n) found → AreRemade found

@@ -8,7 +8,7 @@ use Rattle.hub_spec.specs.Trees.{TreeLine}
 use Rattle.hub_spec.proofs.SumLemmas.{by_test}
 use Rattle.plan_model.specs.declared.tree_lines.TreeLine as model
 use Rattle.plan_model.specs.Lines.{tree_line_of}
-use Rattle.kept_cuts.specs.Findings.{lines_of}
+use Rattle.cut_pool.specs.Findings.{lines_of}
 use Rattle.search_spec.specs.States.{State, Parts, is_stopped}
 use Rattle.search_steps.specs.Advising.{parts_of}
 use Rattle.search_steps.specs.Pools.{HasGrown}

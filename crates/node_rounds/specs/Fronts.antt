@@ -2,7 +2,7 @@
 use Rattle.std.specs.Prelude.{◌≡◌, List, ◌++◌, map, All}
 use Rattle.hub_spec.specs.Problem.{Problem}
 use Rattle.plan_model.specs.Lines.{tree_line_of}
-use Rattle.kept_cuts.specs.Findings.{lines_of}
+use Rattle.cut_pool.specs.Findings.{lines_of}
 use Rattle.cut_pool.specs.Entries.{Entry}
 use Rattle.search_core.specs.declared.tasks.Task.{Task}
 use Rattle.search_steps.specs.Pools.{HasGrown}

@@ -4,7 +4,7 @@ use Rattle.std.specs.List.{AllZip}
 use Rattle.hub_spec.specs.Problem.{Problem}
 use Rattle.plan_model.specs.declared.tree_lines.TreeLine.{TreeLine}
 use Rattle.plan_model.specs.Lines.{tree_line_of}
-use Rattle.kept_cuts.specs.Findings.{lines_of}
+use Rattle.cut_pool.specs.Findings.{lines_of}
 use Rattle.search_core.specs.declared.tasks.Task.{Task}
 use Rattle.search_progress.specs.Progressing.{state_of, IsGoing}
 use Rattle.search_progress.specs.declared.progress.Progress.{Progress}

@@ -1,7 +1,6 @@
 -- What a round's work is.
-use Rattle.std.specs.Prelude.{◌≡◌, ℕ, ◌≤◌, None, All}
+use Rattle.std.specs.Prelude.{◌≡◌, ℕ, ◌^◌, ◌≤◌, None, All}
 use Rattle.std.specs.List.{HoldsAt}
-use Rattle.hub_spec.specs.Limits.{most_cost}
 use Rattle.hub_spec.specs.Problem.{IsProblem}
 use Rattle.search_steps.specs.Pools.{IsPoolOf}
 use Rattle.node_rounds.specs.declared.outcomes.Outcome.{Outcome}
@@ -14,7 +13,7 @@ pub record IsRound (r : Round) : Type 0 where
   pub plain : r.instance.now.wanted ≡ None
   pub pool : IsPoolOf r.instance.now r.pool.now.entries
   pub nodes : All (IsPendingOf r.instance.now r.pool.now.entries) r.nodes.now
-  pub cost : r.cost ≤ most_cost
+  pub cost : r.cost ≤ 10 ^ 30
 
 -- the outcome is the turn of the node at this place
 pub record IsTurnAt (r : Round) (i : ℕ) (o : Outcome) : Type 0 where

@@ -9,7 +9,7 @@ use Rattle.search_core.specs.declared.tasks.Task.{Task}
 use Rattle.search_steps.specs.Advising.{parts_of}
 use Rattle.search_progress.specs.declared.progress.Progress.{Progress}
 use Rattle.search_progress.specs.Progressing.{state_of, IsGoing}
-use Rattle.kept_cuts.specs.Findings.{lines_of}
+use Rattle.cut_pool.specs.Findings.{lines_of}
 use Rattle.hub_spec.specs.Trees.{preorder}
 use Rattle.rounds_spec.specs.Lasting.{searched_by_rounds}
 use Rattle.rounds_spec.specs.Places as places

@@ -3,7 +3,7 @@
 ghost use Rattle.std.specs.Prelude.{◌≡◌, ◌∷◌, [], None, IfOk, OnOk};
 ghost use Rattle.hub_spec.specs.Trees.{preorder};
 ghost use Rattle.plan_model.specs.Lines.{tree_line_of};
-ghost use Rattle.kept_cuts.specs.Findings.{lines_of};
+ghost use Rattle.cut_pool.specs.Findings.{lines_of};
 ghost use Rattle.search_spec.specs.Steps.{unless_ended, stopped_leaf};
 ghost use Rattle.search_steps.specs.Advising.{parts_of};
 ghost use Rattle.search_steps.specs.Weights.{pairs_of};

@@ -1,9 +1,8 @@
 //! The turns of a round, by workers side by side.
 
-ghost use Rattle.std.specs.Prelude.{◌≡◌, ◌<◌, ◌≤◌, None, length, All, IfOk};
+ghost use Rattle.std.specs.Prelude.{◌≡◌, ◌<◌, ◌≤◌, ◌^◌, None, length, All, IfOk};
 ghost use Rattle.std.specs.List.{AllZip};
 ghost use denote.Param.Send.{IsSync};
-ghost use Rattle.hub_spec.specs.Limits.{most_cost};
 ghost use Rattle.hub_spec.specs.Problem.{IsProblem};
 ghost use Rattle.rounds_spec.specs.Turns.{most_turns};
 ghost use Rattle.search_steps.specs.Pools.{IsPoolOf};
@@ -16,7 +15,7 @@ use crew::{Job, answers};
 use cut_pool::Pool;
 use hub_io::Gate;
 use hub_model::Instance;
-use separators::Solo;
+use search_progress::Solo;
 use std::alloc::{AllocError, Global};
 use std::thread::Threads;
 
@@ -81,7 +80,7 @@ pub fn turns<R: Threads + Sync, G: Gate>(
     requires pool { IsPoolOf instance.now pool.now.entries }
     requires nodes { All (IsPendingOf instance.now pool.now.entries) nodes.now }
     requires few { length nodes.now ≤ most_turns }
-    requires cost { cost ≤ most_cost }
+    requires cost { cost ≤ 10 ^ 30 }
     requires workers { (1 ≤ workers) × (workers ≤ 64) }
     ensures turns { IfOk result (λ v. AllZip (IsTurnOf instance.now pool.now.entries cost) nodes.now v.items) }
     ensures sound { IfOk result (λ v. AllZip (IsOutcomeOf instance.now pool.now.entries) nodes.now v.items) }
@@ -114,7 +113,7 @@ pub(crate) fn turns_ahead<R: Threads + Sync, G: Gate>(
     requires pool { IsPoolOf instance.now pool.now.entries }
     requires nodes { All (IsPendingOf instance.now pool.now.entries) nodes.now }
     requires few { length nodes.now ≤ most_turns }
-    requires cost { cost ≤ most_cost }
+    requires cost { cost ≤ 10 ^ 30 }
     requires workers { (1 ≤ workers) × (workers ≤ 64) }
     ensures turns { IfOk result (λ v. AllZip (IsTurnOf instance.now pool.now.entries cost) nodes.now v.items) }
     ensures sound { IfOk result (λ v. AllZip (IsOutcomeOf instance.now pool.now.entries) nodes.now v.items) }

@@ -25,8 +25,7 @@ use crate::turning::turn_ahead;
 use desks::{Desk, Partner, Tickets, desks};
 use hub_io::Gate;
 use search_core::Task;
-use search_progress::Progress;
-use separators::Solo;
+use search_progress::{Progress, Solo};
 use std::alloc::{AllocError, Global};
 use std::thread::{Threads, join};
 

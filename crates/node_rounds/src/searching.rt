@@ -5,10 +5,11 @@ ghost use Rattle.hub_spec.specs.Problem.{IsProblem};
 ghost use Rattle.hub_spec.specs.Plans.{IsHubSet, plan_cost, NoPlanBelow};
 ghost use Rattle.hub_spec.specs.Trees.{root, preorder};
 ghost use Rattle.search_spec.specs.Laws.{IsStart};
+ghost use Rattle.search_spec.specs.Costs.{IsAtMostOf, first_hubs};
 ghost use Rattle.search_spec.specs.Findings.{certificate_of, AreWithin, IsSpent, IsEnough};
 ghost use Rattle.search_steps.specs.Advising.{parts_of};
-ghost use Rattle.separators.specs.Kinds.{minimal};
-ghost use Rattle.kept_cuts.specs.Findings.{lines_of, proof_of, AreRemade, IsProved};
+ghost use Rattle.search_progress.specs.Kinds.{minimal};
+ghost use Rattle.cut_pool.specs.Findings.{lines_of, proof_of, AreRemade, IsProved};
 ghost use Rattle.search_progress.specs.Progressing.{state_of, IsGoing};
 ghost use Rattle.search_progress.specs.Findings.{IsFound};
 ghost use Rattle.rounds_spec.specs.Places.{open_at};
@@ -29,12 +30,11 @@ use crate::taking::take;
 use crate::turners::{Turner, Workers};
 use hub_io::Gate;
 use hub_model::Instance;
-use kept_cuts::Found;
+use cut_pool::Found;
 use plan_model::Branch;
 use search_core::Task;
-use search_progress::{Progress, begin, finish};
+use search_progress::{Progress, Separator, begin, finish};
 use search_steps::Plain;
-use separators::Separator;
 use std::alloc::{AllocError, Global};
 use std::thread::Threads;
 
@@ -50,7 +50,7 @@ const KEPT_BLOCK: usize = 16 << 20;
 /// many workers, 1 to 64, each in a thread of its own where one can be made, and a worker passes the gate once for each
 /// node that it draws, before the node's turn.
 ///
-/// The separator works out cuts of minimal duals. Only where two nodes more are not allowed the search stops. Else cost and
+/// The separator works out cuts of minimal duals. The plan costs at most what all candidates do. Only where two nodes more are not allowed the search stops. Else cost and
 /// bound are equal and the plan is optimal. The finding is the same whatever the separator, the number of workers, their
 /// schedule and the gate are.
 ///
@@ -79,6 +79,7 @@ pub fn search_rounds<R: Threads + Sync, S: Separator, G: Gate>(
     ensures paid { IfOk result (λ found. found.cost ≡ plan_cost instance.now found.plan) }
     ensures below { IfOk result (λ found. NoPlanBelow instance.now found.bound) }
     ensures within { IfOk result (λ found. found.bound ≤ found.cost) }
+    ensures at_most { IfOk result (λ found. IsAtMostOf instance.now (first_hubs instance.now) found.cost) }
     ensures most { IfOk result (λ found. length found.tree.items + 1 ≤ 2 ^ (length instance.now.candidates + 1)) }
     ensures allowed { IfOk result (λ found. AreWithin nodes (length found.tree.items)) }
     ensures spent { IfOk result (λ found. found.bound < found.cost → IsSpent nodes (length found.tree.items)) }

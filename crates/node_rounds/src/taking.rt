@@ -5,7 +5,7 @@ ghost use Rattle.hub_spec.specs.Plans.{IsHubSet};
 ghost use Rattle.hub_spec.specs.Separation.{IsOrder};
 ghost use Rattle.hub_spec.specs.Trees.{IsBranch};
 ghost use Rattle.search_steps.specs.Advising.{parts_of};
-ghost use Rattle.separators.specs.Kinds.{minimal};
+ghost use Rattle.search_progress.specs.Kinds.{minimal};
 ghost use Rattle.search_progress.specs.Progressing.{state_of, IsGoing, IsAt};
 ghost use Rattle.rounds_spec.specs.Turns.{with_set, taken};
 ghost use Rattle.node_rounds.specs.Outcomes.{pending_of, outcome_of, AreSumsOver, IsOutcomeOf};
@@ -17,8 +17,7 @@ use crate::splitting::split_up;
 use cut_pool::CutSums;
 use plan_model::HubSet;
 use search_core::Task;
-use search_progress::{Progress, keep, number_of, separate};
-use separators::{Separated, Separator};
+use search_progress::{Progress, Separated, Separator, keep, number_of, separate};
 use std::alloc::{AllocError, Global};
 
 /// Takes the outcome of a node: what comes in the node's place is added to the front.

@@ -1,7 +1,6 @@
 //! The turn of a node.
 
-ghost use Rattle.std.specs.Prelude.{◌≡◌, ◌≤◌, ◌&&◌, None, not, nat_lt, is_some, IfOk};
-ghost use Rattle.hub_spec.specs.Limits.{most_cost};
+ghost use Rattle.std.specs.Prelude.{◌≡◌, ◌≤◌, ◌^◌, ◌&&◌, None, not, nat_lt, is_some, IfOk};
 ghost use Rattle.hub_spec.specs.Problem.{Problem, IsProblem};
 ghost use Rattle.hub_spec.specs.Plans.{IsHubSet};
 ghost use Rattle.hub_spec.specs.Trees.{IsBranch};
@@ -22,7 +21,7 @@ use pareto_cuts::order_of;
 use plan_model::{Branch, HubSet};
 use search_core::whole_leaf;
 use search_steps::{NodeWeights, Plain, Rule, closes, is_better, leaf_line, node_advice};
-use separators::Solo;
+use search_progress::Solo;
 use std::alloc::{AllocError, Global};
 
 // How often a node may ask for a set by its advice.
@@ -42,7 +41,7 @@ pub fn turn(
     requires plain { instance.now.wanted ≡ None }
     requires pool { IsPoolOf instance.now pool.now.entries }
     requires node { IsPendingOf instance.now pool.now.entries node.now }
-    requires cost { cost ≤ most_cost }
+    requires cost { cost ≤ 10 ^ 30 }
     ensures turn { IfOk result (IsTurnOf instance.now pool.now.entries cost node.now) }
     ensures sound { IfOk result (IsOutcomeOf instance.now pool.now.entries node.now) }
 {
@@ -72,7 +71,7 @@ pub(crate) fn turn_ahead(
     requires plain { instance.now.wanted ≡ None }
     requires pool { IsPoolOf instance.now pool.now.entries }
     requires node { IsPendingOf instance.now pool.now.entries node.now }
-    requires cost { cost ≤ most_cost }
+    requires cost { cost ≤ 10 ^ 30 }
     ensures turn { IfOk result (IsTurnOf instance.now pool.now.entries cost node.now) }
     ensures sound { IfOk result (IsOutcomeOf instance.now pool.now.entries node.now) }
 {
@@ -142,7 +141,7 @@ fn turn_advised(
     requires pool { IsPoolOf instance.now pool.now.entries }
     requires node { IsPendingOf instance.now pool.now.entries node.now }
     requires goes_on { GoesOn (parts_of instance.now) node.now.branch }
-    requires cost { cost ≤ most_cost }
+    requires cost { cost ≤ 10 ^ 30 }
     ensures turn { let p = instance.now in IfOk result (λ o. InEachStateAt p pool.now.entries cost
         (λ s. outcome_of o ≡ turn_advised p (parts_of p) s (pending_of node.now))) }
     ensures sound { IfOk result (IsOutcomeOf instance.now pool.now.entries node.now) }

@@ -1,7 +1,7 @@
 //! Values of the candidates from a certificate's cuts.
 
 use hub_model::Instance;
-use stated_cuts::{StatedCut, StatedDual};
+use cut_model::{StatedCut, StatedDual};
 use std::alloc::{AllocError, Global};
 
 /// The values that advice may begin with: a row for each commodity in order, with a value for each candidate, in this unit of

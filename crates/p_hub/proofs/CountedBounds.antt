@@ -8,9 +8,10 @@ use Rattle.hub_spec.specs.Cuts.{Cut}
 use Rattle.hub_spec.specs.Trees.{Branching, mixed_total, mixed_gain, counted_bound, bound_by, leaf_bound}
 use Rattle.hub_spec.proofs.SortedSums.{put, rising, front_sum, least_is_front}
 use Rattle.leaf_bound.specs.Bounds.{Weighting, weighted_total, gain_of}
-use Rattle.leaf_bound.specs.Numbers.{IsBranchBelow}
+use Rattle.leaf_bound.specs.declared.weightings.Weighting as lent
+use Rattle.leaf_bound.specs.Numbers.{IsBranchBelow, IsBranchWithin, weighting_of}
 use Rattle.leaf_bound.specs.Theorems.{weight_pairs, IsWeightingOf}
-use Rattle.leaf_bound.proofs.LentNumbers.{sum_ints_same}
+use Rattle.leaf_bound.proofs.LentNumbers.{sum_ints_same, AreGainsOf, read_gains}
 use Rattle.leaf_bound.proofs.LeafWeights.{total_is, gain_is}
 use Rattle.p_hub.specs.Counted.{counted_of, gain_in, AreRising}
 use Rattle.p_hub.proofs.RisingGains.{values_rising}
@@ -42,19 +43,11 @@ counted_same n base total f g b sum inside free =
 
 -- ---- gains that are read
 
--- the gains that are read are the weighting's
-abbrev pub AreGainsOf : Weighting → List ℤ → Type 0
-AreGainsOf m gains = (k : ℕ) → k < length gains → get_or gains k (pos 0) ≡ gain_of m k
-
-pub read_agree : (m : Weighting) (gains : List ℤ) (nodes : List ℕ) → AreGainsOf m gains → All (λ k. k < length gains) nodes
-    → Agree (gain_in gains) (gain_of m) nodes
-read_agree m gains nodes are below = λ i d low. are (get_or nodes i d) (below i d low)
-
-pub counted_read : (n : ℕ) (m : Weighting) (base : ℕ) (gains : List ℤ) (b : Branching) → base ≡ weighted_total m → AreGainsOf m gains
-    → IsBranchBelow (length gains) b → counted_bound n base (gain_in gains) b ≡ counted_of n m b
-counted_read n m base gains b total are below =
-    counted_same n base (weighted_total m) (gain_in gains) (gain_of m) b total (read_agree m gains b.inside are below.inside)
-    (read_agree m gains b.free are below.free)
+pub counted_read : (n : ℕ) (m : lent.Weighting) (base : ℕ) (gains : List ℤ) (b : Branching) → base ≡ weighted_total (weighting_of m)
+    → AreGainsOf m gains → IsBranchWithin m b → counted_bound n base (gain_in gains) b ≡ counted_of n (weighting_of m) b
+counted_read n m base gains b total are within =
+    counted_same n base (weighted_total (weighting_of m)) (gain_in gains) (gain_of (weighting_of m)) b total
+    (read_gains m gains b.inside are within.inside) (read_gains m gains b.free are within.free)
 
 -- the first of the rising gains are those that are missing
 pub front_is_least : (m : ℕ) (gains : List ℤ) (nodes : List ℕ) (values : List ℤ) → AreRising gains nodes values

@@ -1,5 +1,5 @@
 -- The bounds of a candidate's two children where just so many hubs are wanted, and the side that they leave it.
-use Rattle.std.proofs.Common.{◌≡◌, ℕ, ℤ, pos, ◌+◌, ◌*◌, ◌<◌, ◌-◌, ◌+ℤ◌, ◌-ℤ◌, FitsSigned, to_z, of_z, Bool, true, false, cond, int_lt, List, length, get_or, All, Contains, ap, ap₂, ◌∙◌, subst, arith}
+use Rattle.std.proofs.Common.{◌≡◌, ℕ, ℤ, pos, ◌+◌, ◌*◌, ◌-◌, ◌+ℤ◌, ◌-ℤ◌, FitsSigned, to_z, of_z, Bool, true, false, cond, int_lt, List, length, get_or, All, Contains, ap, ap₂, ◌∙◌, subst, arith}
 use Rattle.std.specs.Prelude.{Option, Some, None}
 use Rattle.std.specs.Int.{w128, int_min, int_max}
 use Rattle.std.proofs.lemmas.Int.{ints, clamps, to_z-of_z}
@@ -8,9 +8,11 @@ use Rattle.hub_spec.proofs.LeastSums.{length_with_node, length_without}
 use Rattle.hub_spec.proofs.SortedSums.{rising}
 use Rattle.hub_spec.proofs.OneOut.{value_of, counted_of_closed, counted_of_open}
 use Rattle.hub_spec.proofs.Children.{lesser_of_two}
+use Rattle.leaf_bound.specs.declared.weightings.Weighting as lent
 use Rattle.leaf_bound.specs.Bounds.{Weighting, weighted_total, gain_of}
+use Rattle.leaf_bound.specs.Numbers.{IsNodeWithin, weighting_of}
 use Rattle.leaf_bound.specs.Weighing.{most_gain, most_bound, IsWithin}
-use Rattle.leaf_bound.proofs.LentNumbers.{within_fits}
+use Rattle.leaf_bound.proofs.LentNumbers.{within_fits, AreGainsOf, read_gains}
 use Rattle.hub_fixing.specs.declared.sides.Side.{Side}
 use Rattle.hub_fixing.specs.declared.sides.Side.TheVariants.{In, Out}
 use Rattle.hub_fixing.proofs.ListedSides.{listed, closed_first, then_opened, below}
@@ -18,7 +20,7 @@ use Rattle.p_hub.specs.Counted.{counted_of, gain_in, AreRising}
 use Rattle.p_hub.specs.Fixing.{counted_closes, counted_side, counted_fixings, IsBetween, side_by}
 use Rattle.p_hub.specs.Theorems.{OtherSideCloses}
 use Rattle.p_hub.proofs.RisingGains.{values_rising}
-use Rattle.p_hub.proofs.CountedBounds.{AreGainsOf, read_agree, rising_same}
+use Rattle.p_hub.proofs.CountedBounds.{rising_same}
 
 -- ---- the children's bounds
 
@@ -65,13 +67,13 @@ not_both n m target b k free between none opened closed =
     none opened closed
 
 -- the value that is read at a place of the rising gains
-pub value_read : (m : Weighting) (gains : List ℤ) (nodes listed : List ℕ) (values : List ℤ) (i j : ℕ) → AreRising gains nodes values
-    → nodes ≡ listed → AreGainsOf m gains → All (λ k. k < length gains) listed → i ≡ j
-    → get_or values i (pos 0) ≡ value_of j (rising (gain_of m) listed)
-value_read m gains nodes listed values i j are same own below place =
+pub value_read : (m : lent.Weighting) (gains : List ℤ) (nodes listed : List ℕ) (values : List ℤ) (i j : ℕ) → AreRising gains nodes values
+    → nodes ≡ listed → AreGainsOf m gains → All (IsNodeWithin m) listed → i ≡ j
+    → get_or values i (pos 0) ≡ value_of j (rising (gain_of (weighting_of m)) listed)
+value_read m gains nodes listed values i j are same own within place =
     ap₂ (λ (k : ℕ) (zs : List ℤ). get_or zs k (pos 0)) place
     (values_rising gains nodes values are ∙ ap (rising (gain_in gains)) same
-    ∙ rising_same (gain_in gains) (gain_of m) listed (read_agree m gains listed own below))
+    ∙ rising_same (gain_in gains) (gain_of (weighting_of m)) listed (read_gains m gains listed own within))
 
 -- the side that the code finds is the candidate's
 pub side_found : (n : ℕ) (m : Weighting) (target : ℕ) (b : Branching) (k : ℕ) (whole last next threshold gain : ℤ) (found : Option Side)

@@ -1,10 +1,10 @@
 //! The bound of a branch where just so many hubs are wanted, and whether it closes a target.
 
-ghost use Rattle.std.specs.Prelude.{◌≡◌, ℕ, ◌^◌, ◌↔◌, ◌<◌, ◌≤◌, pos, length, slice_index_or, IsTrue, Some};
+ghost use Rattle.std.specs.Prelude.{◌≡◌, ◌^◌, ◌↔◌, ◌≤◌, length, IsTrue, Some};
 ghost use Rattle.hub_spec.specs.Limits.{most_nodes};
 ghost use Rattle.hub_spec.specs.Trees.{Closes, HasRoom, counted_bound};
-ghost use Rattle.leaf_bound.specs.Numbers.{AreWeightingNumbers, IsBranchBelow, weighting_of};
-ghost use Rattle.leaf_bound.specs.Weighing.{most_gain, most_bound, IsWithin};
+ghost use Rattle.leaf_bound.specs.Numbers.{AreWeightingNumbers, IsBranchWithin, weighting_of};
+ghost use Rattle.leaf_bound.specs.Weighing.{most_gain, most_bound, IsWithin, AreGains};
 ghost use Rattle.p_hub.specs.Counted.{counted_of, gain_in, AreRising};
 
 use crate::rising::{ROOM, rising_gains};
@@ -16,7 +16,7 @@ use plan_model::Branch;
 /// room for the hubs.
 pub fn bound_p(weighting: &Weighting, branch: &Branch, p: u32) -> i128
     requires numbers { AreWeightingNumbers weighting.now }
-    requires nodes { IsBranchBelow (length weighting.now.fixed.now) branch.now }
+    requires nodes { IsBranchWithin weighting.now branch.now }
     requires room { HasRoom (Some p) branch.now }
     ensures value { result ≡ counted_of p (weighting_of weighting.now) branch.now }
     ensures limit { IsWithin most_bound result }
@@ -40,9 +40,8 @@ pub(crate) fn bound_by_rising(
     p: u32,
 ) -> i128
     requires base { base ≤ most_gain }
-    requires gains { (k : ℕ) → k < length gains.now → IsWithin most_gain (slice_index_or gains.now k (pos 0)) }
+    requires gains { AreGains gains.now branch.now }
     requires few { length gains.now ≤ most_nodes }
-    requires nodes { IsBranchBelow (length gains.now) branch.now }
     requires rising { AreRising gains.now branch.now.free rising.now }
     requires room { HasRoom (Some p) branch.now }
     ensures value { result ≡ counted_bound p base (gain_in gains.now) branch.now }
@@ -61,7 +60,7 @@ pub(crate) fn bound_by_rising(
 /// 10^-12: no plan of the branch with `p` hubs then costs less than the target.
 pub fn closes_p(weighting: &Weighting, branch: &Branch, target: u128, p: u32) -> bool
     requires numbers { AreWeightingNumbers weighting.now }
-    requires nodes { IsBranchBelow (length weighting.now.fixed.now) branch.now }
+    requires nodes { IsBranchWithin weighting.now branch.now }
     requires target { target ≤ 10 ^ 30 }
     requires room { HasRoom (Some p) branch.now }
     ensures { IsTrue result

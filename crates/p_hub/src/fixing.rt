@@ -1,7 +1,7 @@
 //! The free candidates of which a side stays.
 
-ghost use Rattle.std.specs.Prelude.{◌≡◌, ◌^◌, ◌≤◌, false, length, IfOk};
-ghost use Rattle.leaf_bound.specs.Numbers.{AreWeightingNumbers, IsBranchBelow, weighting_of};
+ghost use Rattle.std.specs.Prelude.{◌≡◌, ◌^◌, ◌≤◌, false, IfOk};
+ghost use Rattle.leaf_bound.specs.Numbers.{AreWeightingNumbers, IsBranchWithin, weighting_of};
 ghost use Rattle.p_hub.specs.Fixing.{counted_closes, counted_fixings, IsBetween};
 
 use crate::bounds::bound_by_rising;
@@ -24,7 +24,7 @@ pub fn fix_p(
     p: u32,
 ) -> Result<Vec<(u32, Side)>, AllocError>
     requires numbers { AreWeightingNumbers weighting.now }
-    requires nodes { IsBranchBelow (length weighting.now.fixed.now) branch.now }
+    requires nodes { IsBranchWithin weighting.now branch.now }
     requires target { target ≤ 10 ^ 30 }
     requires between { IsBetween p branch.now }
     requires not_closed { counted_closes p (weighting_of weighting.now) target branch.now ≡ false }

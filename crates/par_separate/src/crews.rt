@@ -5,12 +5,12 @@ ghost use Rattle.hub_spec.specs.Plans.{IsHubSet};
 ghost use Rattle.hub_spec.specs.Separation.{IsOrder};
 ghost use Rattle.cut_pool.specs.Entries.{entry_of};
 ghost use Rattle.search_steps.specs.Pools.{IsSumsOf};
-ghost use Rattle.separators.specs.Kinds.{minimal};
+ghost use Rattle.search_progress.specs.Kinds.{minimal};
 
 use cut_pool::CutSums;
 use hub_model::Instance;
 use plan_model::HubSet;
-use separators::{Separated, Separator};
+use search_progress::{Separated, Separator};
 use std::alloc::{AllocError, Global};
 
 /// Separates by a closure, which may start threads.

@@ -3,7 +3,7 @@ use Rattle.std.proofs.Common.{◌≡◌, ℕ, ◌+◌, ◌<◌, List, [], ◌∷
 use Rattle.std.specs.List.{AllZip}
 use Rattle.std.proofs.lemmas.List.{get_or-map, length-map, take_more}
 use Rattle.hub_spec.specs.Cuts.{Prices}
-use Rattle.kept_cuts.specs.Kept.{Kept, by_set, kept_at}
+use Rattle.cut_pool.specs.Kept.{Kept, by_set, kept_at}
 use Rattle.proof_text.proofs.FoundLines.{same_place}
 
 -- ---- the duals of a cut

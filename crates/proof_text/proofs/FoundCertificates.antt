@@ -5,17 +5,17 @@ use Rattle.hub_spec.specs.Plans.{Plan}
 use Rattle.hub_spec.specs.Cuts.{Cut}
 use Rattle.hub_spec.specs.Trees.{Tree, empty, preorder}
 use Rattle.core_spec.specs.CoreCuts.{Mark}
-use Rattle.cert_spec.specs.Stated.{Stated, as_second, IsStatedInRange}
+use Rattle.cert_spec.specs.Stated.{Stated, IsStatedInRange}
 use Rattle.plan_model.specs.Lines.{tree_line_of}
 use Rattle.plan_model.specs.declared.tree_lines.TreeLine.{TreeLine}
-use Rattle.kept_cuts.specs.Kept.{kept_cuts}
-use Rattle.kept_cuts.specs.declared.found.Found.{Found}
-use Rattle.kept_cuts.specs.Findings.{lines_of, IsVersionFor, IsProved, proof_of as found_proof}
+use Rattle.cut_pool.specs.Kept.{kept_cuts}
+use Rattle.cut_pool.specs.declared.found.Found.{Found}
+use Rattle.cut_pool.specs.Findings.{lines_of, proof_of as found_proof}
 use Rattle.cert_format.specs.Parts.{proof_of as text_proof, stated_of, AreCertificateParts, IsHeadingOf}
 use Rattle.cert_format.specs.Growing.{tree_of}
 use Rattle.cert_format.specs.Codes.{tree_of-preorder}
 use Rattle.cert_format.specs.declared.headings.Heading.{Heading}
-use Rattle.proof_text.specs.Certificates.{mark_said, stated_by, IsCertificateOf}
+use Rattle.proof_text.specs.Certificates.{mark_said, stated_by, IsCertificateOf, CanBeStated, HasVersion}
 use Rattle.proof_text.proofs.StatedFindings.{stated_in_range}
 
 -- the parts that a certificate is made of are those of the finding
@@ -54,11 +54,11 @@ same_stated v p found heading plan cuts marks lines tree e is =
     λ t. record { proof = same_proof v p found heading plan cuts marks lines tree e is t; marks = e.marks_are t }
 
 pub certificate_parts : (v : ℕ) (p : Problem) (found : Found) (heading : Heading) (plan : Plan) (cuts : List Cut) (marks : List (Option Mark))
-    (lines : List TreeLine) → IsVersionFor p found.cuts.cuts (as_second v) → IsProved p found → AreParts v p found heading plan cuts marks lines
+    (lines : List TreeLine) → HasVersion v p found → CanBeStated p found → AreParts v p found heading plan cuts marks lines
     → AreCertificateParts heading plan cuts marks lines
 certificate_parts v p found heading plan cuts marks lines there h e = record {
   in_range = subst IsStatedInRange (sym (same_stated v p found heading plan cuts marks lines h.tree e h.lines))
-      (stated_in_range v p found h.tree h h.lines there);
+      (stated_in_range v p found h.tree h h.lines (there h.tree h.lines));
   one_tree = ap preorder (same_tree found h.tree lines e.lines_are h.lines) ∙ sym h.lines ∙ sym (ap (map tree_line_of) e.lines_are);
 }
 

@@ -1,11 +1,10 @@
 -- The lines of a finding, by what is put: those of its certificate, cut by cut.
-use Rattle.std.proofs.Common.{◌≡◌, ℕ, ◌+◌, ◌-◌, ◌<◌, List, [], ◌∷◌, ◌++◌, length, map, flat_map, zip, get_or, ◌≤◌, Option, Some, None, inr, refl, sym, ap, ◌∙◌, arith}
+use Rattle.std.proofs.Common.{◌≡◌, ℕ, ◌+◌, ◌-◌, ◌<◌, List, [], ◌∷◌, ◌++◌, length, map, flat_map, zip, get_or, ◌≤◌, Option, Some, None, refl, sym, ap, ◌∙◌, arith}
 use Rattle.std.specs.List.{enumerate_from, range_with_len}
 use Rattle.std.proofs.lemmas.List.{length-map, get_or-map}
 use Rattle.std.proofs.lemmas.List.FromFn.{length-enumerate_from}
 use Rattle.hub_spec.specs.Problem.{Problem}
 use Rattle.hub_spec.specs.Plans.{Plan}
-use Rattle.hub_spec.specs.Ranges.{IsInRange}
 use Rattle.hub_spec.specs.Cuts.{Cut}
 use Rattle.hub_spec.specs.Trees.{Tree, empty, preorder}
 use Rattle.plan_model.specs.declared.tree_lines.TreeLine as model
@@ -18,9 +17,9 @@ use Rattle.cert_format.specs.Parts.{IsHeadingOf, HasProofs}
 use Rattle.cert_format.specs.declared.headings.Heading.{Heading}
 use Rattle.cert_format.proofs.Joined.{three_texts}
 use Rattle.cert_format.proofs.CutLines.{cut_text, cut_at, cut_text_by}
-use Rattle.kept_cuts.specs.Kept.{Kept, by_set, KeptList, kept_cut, kept_cuts, kept_part, kept_at, IsKeptFor}
-use Rattle.kept_cuts.specs.Findings.{lines_of, proof_of, IsProved}
-use Rattle.kept_cuts.specs.declared.found.Found.{Found}
+use Rattle.cut_pool.specs.Kept.{Kept, by_set, KeptList, kept_cut, kept_cuts, kept_part, kept_at, IsKeptFor}
+use Rattle.cut_pool.specs.Findings.{lines_of, proof_of}
+use Rattle.cut_pool.specs.declared.found.Found.{Found}
 use Rattle.dual_lender.specs.Lenders.{kept_dual}
 use Rattle.dual_lender.proofs.Lending.{kept_cut_is}
 use Rattle.proof_text.specs.Certificates.{mark_said, stated_by}
@@ -29,10 +28,6 @@ use Rattle.proof_text.proofs.ProvedLines.{all_proved}
 use Rattle.proof_text.proofs.SaidMarks.{said_has_proofs}
 
 -- ---- the top
-
--- a finding is within the ranges of a certificate of the second version
-pub found_in_range : (p : Problem) (found : Found) (h : IsProved p found) → IsInRange (proof_of 2 p found h.tree)
-found_in_range p found h = h.in_range 2 (inr refl)
 
 pub top_text : (v : ℕ) (p : Problem) (found : Found) (heading : Heading) {cuts : ℕ} {plan : Plan}
     → IsHeadingOf heading (proof_of v p found empty) → plan ≡ found.plan → cuts ≡ length found.cuts.cuts

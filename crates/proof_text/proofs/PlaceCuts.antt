@@ -4,12 +4,12 @@ use Rattle.std.proofs.lemmas.List.{length-map}
 use Rattle.std.proofs.lemmas.List.Elements.{All-get_or}
 use Rattle.std.proofs.lemmas.Nat.{div_below, mul-le}
 use Rattle.hub_spec.specs.Limits.{most_nodes, most_cuts}
-use Rattle.kept_cuts.specs.Kept.{by_set, KeptList, kept_cut, IsKeptFor}
-use Rattle.kept_cuts.specs.Findings.{IsProved}
-use Rattle.kept_cuts.specs.declared.found.Found.{Found}
+use Rattle.cut_pool.specs.Kept.{by_set, KeptList, kept_cut, IsKeptFor}
+use Rattle.cut_pool.specs.declared.found.Found.{Found}
+use Rattle.proof_text.specs.Certificates.{CanBeStated}
 use Rattle.proof_text.specs.Places.{AreLines, place_count, cut_of}
 use Rattle.proof_text.specs.declared.places.CutLines.{CutLines}
-use Rattle.proof_text.proofs.FoundLines.{same_place, found_in_range}
+use Rattle.proof_text.proofs.FoundLines.{same_place}
 
 -- the cut of a place is there
 pub cut_there : (l : CutLines) (t : ℕ) → AreLines l → t < place_count l → t / l.instance.now.size < length l.cuts.now.cuts
@@ -28,10 +28,10 @@ pub few_places : (l : CutLines) → AreLines l → place_count l ≤ 13421772800
 few_places l are = mul-le (length l.cuts.now.cuts) l.instance.now.size most_cuts most_nodes are.few are.small
 
 -- the cuts of a finding are such
-pub cuts_found : (l : CutLines) (found : Found) → IsProved l.instance.now found → l.cuts.now ≡ found.cuts → AreLines l
+pub cuts_found : (l : CutLines) (found : Found) → CanBeStated l.instance.now found → l.cuts.now ≡ found.cuts → AreLines l
 cuts_found l found h same =
     let p = l.instance.now in
-    let range = found_in_range p found h in
+    let range = h.in_range in
     let cuts : l.cuts.now.cuts ≡ found.cuts.cuts = ap (λ (k : KeptList). k.cuts) same in
     let many : length l.cuts.now.cuts ≡ length found.cuts.cuts = ap length cuts in
     record {

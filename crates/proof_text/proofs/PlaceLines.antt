@@ -13,7 +13,7 @@ use Rattle.cert_spec.specs.Lines.{Item}
 use Rattle.cert_spec.specs.Text.{line_bytes, cut_items_as, cut_items}
 use Rattle.cert_format.proofs.Joined.{texts_joined}
 use Rattle.cert_format.proofs.CutLines.{cut_text}
-use Rattle.kept_cuts.specs.Kept.{Kept, by_set, kept_cut, kept_at, IsKeptFor}
+use Rattle.cut_pool.specs.Kept.{Kept, by_set, kept_cut, kept_at, IsKeptFor}
 use Rattle.proof_text.specs.Certificates.{mark_said}
 use Rattle.proof_text.specs.Texts.{head_item, head_items, duals_with, origin_items, place_items, stretch_items, kept_items}
 use Rattle.proof_text.proofs.FoundLines.{numbered, length_numbered, same_place, kept_cut_at, kept_cut_text}

@@ -9,9 +9,9 @@ use Rattle.core_spec.specs.CoreCuts.{Mark}
 use Rattle.core_spec.specs.MarkRanges.{IsMarkInRange}
 use Rattle.cert_spec.specs.Stated.{IsAsMarked}
 use Rattle.cert_format.specs.Parts.{HasProofs}
-use Rattle.kept_cuts.specs.Kept.{Kept, kept_cut, kept_cuts, kept_mark, IsKeptFor}
-use Rattle.kept_cuts.specs.Theorems.{IsMarkedBy}
-use Rattle.kept_cuts.proofs.KeptCutLaws.{kept_mark_is}
+use Rattle.cut_pool.specs.Kept.{Kept, kept_cut, kept_cuts, kept_mark, IsKeptFor}
+use Rattle.cut_pool.specs.Theorems.{IsMarkedBy}
+use Rattle.cut_pool.proofs.KeptCutLaws.{kept_mark_is}
 use Rattle.proof_text.specs.Certificates.{mark_said}
 
 -- what holds of the mark that a cut has, and of none, holds of the one that is said

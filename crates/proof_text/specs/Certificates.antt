@@ -1,12 +1,13 @@
 -- The certificate of what a search found.
-use Rattle.std.specs.Prelude.{◌≡◌, ℕ, map, nat_eq, if◌then◌else◌, Option, None}
+use Rattle.std.specs.Prelude.{◌≡◌, ℕ, map, All, nat_eq, if◌then◌else◌, Option, None}
 use Rattle.hub_spec.specs.Problem.{Problem}
 use Rattle.hub_spec.specs.Trees.{Tree, preorder}
+use Rattle.hub_spec.specs.Ranges.{IsVersionOf, IsInRange}
 use Rattle.core_spec.specs.CoreCuts.{Mark}
-use Rattle.cert_spec.specs.Stated.{Stated}
-use Rattle.kept_cuts.specs.Kept.{Kept, kept_mark}
-use Rattle.kept_cuts.specs.Findings.{lines_of, proof_of}
-use Rattle.kept_cuts.specs.declared.found.Found.{Found}
+use Rattle.cert_spec.specs.Stated.{Stated, as_second}
+use Rattle.cut_pool.specs.Kept.{Kept, kept_mark, IsKeptFor}
+use Rattle.cut_pool.specs.Findings.{lines_of, proof_of}
+use Rattle.cut_pool.specs.declared.found.Found.{Found}
 
 -- the mark that a text of the version says of a kept cut: only the third says marks
 abbrev pub mark_said : ℕ → Kept → Option Mark
@@ -20,3 +21,15 @@ stated_by version p found tree = record { proof = proof_of version p found tree;
 abbrev pub IsCertificateOf : ℕ → Problem → Found → Stated → Type 0
 IsCertificateOf version p found k =
     (tree : Tree) → lines_of found.tree.items ≡ preorder tree → k ≡ stated_by version p found tree
+
+-- what is found can be stated: its cuts fit the problem, its lines are those of a tree, and with that tree it is within the
+-- ranges of a certificate of the second version
+pub record CanBeStated (p : Problem) (found : Found) : Type 0 where
+  pub fit : All (IsKeptFor p) found.cuts.cuts
+  pub tree : Tree
+  pub lines : lines_of found.tree.items ≡ preorder tree
+  pub in_range : IsInRange (proof_of 2 p found tree)
+
+-- .. and the version has a text for all of it
+abbrev pub HasVersion : ℕ → Problem → Found → Type 0
+HasVersion version p found = (tree : Tree) → lines_of found.tree.items ≡ preorder tree → IsVersionOf (proof_of (as_second version) p found tree)

@@ -3,7 +3,7 @@ use Rattle.std.specs.Prelude.{ℕ, ◌+◌, ◌*◌, ◌/◌, ◌≤◌, List, l
 use Rattle.hub_spec.specs.Limits.{most_nodes, most_cuts}
 use Rattle.cert_spec.specs.Lines.{Item}
 use Rattle.cert_scan.specs.Versions.{version_number}
-use Rattle.kept_cuts.specs.Kept.{Kept, kept_at, IsKeptFor}
+use Rattle.cut_pool.specs.Kept.{Kept, kept_at, IsKeptFor}
 use Rattle.dual_lender.specs.Lenders.{LenderState, IsLenderFor, IsReady}
 use Rattle.proof_text.specs.Texts.{place_items}
 use Rattle.proof_text.specs.declared.places.CutLines.{CutLines}

@@ -9,9 +9,9 @@ use Rattle.cert_spec.specs.Stated.{unmarked, as_second, IsStatedInRange, IsState
 use Rattle.cert_spec.specs.Lines.{Item, says_cut, says_marked, says_dual, says_proof}
 use Rattle.cert_spec.specs.Text.{top_items, cuts_items, tree_items, part_said, line_bytes, certificate_text}
 use Rattle.cert_format.specs.DualItems.{dual_items_from}
-use Rattle.kept_cuts.specs.Kept.{Kept, kept_at, kept_cut, kept_part, kept_mark}
-use Rattle.kept_cuts.specs.Findings.{lines_of, proof_of, IsVersionFor, IsProved}
-use Rattle.kept_cuts.specs.declared.found.Found.{Found}
+use Rattle.cut_pool.specs.Kept.{Kept, kept_at, kept_cut, kept_part, kept_mark}
+use Rattle.cut_pool.specs.Findings.{lines_of, proof_of, IsVersionFor, IsProved}
+use Rattle.cut_pool.specs.declared.found.Found.{Found}
 use Rattle.dual_lender.specs.Lenders.{kept_dual}
 use Rattle.proof_text.specs.Certificates.{mark_said, stated_by}
 

@@ -1,11 +1,9 @@
 //! The certificate of what a search found, with all of its duals.
 
 ghost use Rattle.std.specs.Prelude.{◌≡◌, IfOk, All};
-ghost use Rattle.cert_spec.specs.Stated.{as_second};
 ghost use Rattle.cert_scan.specs.Versions.{version_number};
-ghost use Rattle.kept_cuts.specs.Kept.{kept_of, kept_cut, kept_cuts, IsKeptFor};
-ghost use Rattle.kept_cuts.specs.Findings.{IsProved, IsVersionFor};
-ghost use Rattle.proof_text.specs.Certificates.{IsCertificateOf};
+ghost use Rattle.cut_pool.specs.Kept.{kept_of, kept_cut, kept_cuts, IsKeptFor};
+ghost use Rattle.proof_text.specs.Certificates.{IsCertificateOf, CanBeStated, HasVersion};
 ghost use Rattle.dual_lender.specs.Lenders.{IsLenderFor, made_dual};
 
 use crate::headings::heading_of;
@@ -13,23 +11,23 @@ use crate::marks::said_marks;
 use cert_format::{Certificate, Version};
 use dual_lender::DualLender;
 use hub_model::Instance;
-use kept_cuts::{Found, KeptCut, KeptCuts};
+use cut_pool::{Found, KeptCut, KeptCuts};
 use plan_model::{Dual, Plan, TreeLine};
-use stated_cuts::StatedCut;
+use cut_model::StatedCut;
 use std::alloc::{AllocError, Global};
 
 /// The certificate of what a search of the instance found in this version, with the duals of each cut made anew, and
 /// those of a core cut or one that was given copied. In the third version core cuts are marked. The first version is for
-/// instances in which no length is limited and no number of hubs is wanted, and for findings whose cuts are all made anew: it
-/// has no lines for others.
+/// findings that it has lines for: the part of each cut is 1, its duals have at most 30 digits, and no tree line says that a
+/// commodity is blocked or hubs are too few.
 pub fn certificate_of(
     alloc: Global,
     instance: &Instance,
     found: &Found,
     version: Version,
 ) -> Result<Certificate, AllocError>
-    requires version { IsVersionFor instance.now found.now.cuts.cuts (as_second (version_number version)) }
-    requires proved { IsProved instance.now found.now }
+    requires version { HasVersion (version_number version) instance.now found.now }
+    requires found { CanBeStated instance.now found.now }
     ensures { IfOk result (IsCertificateOf (version_number version) instance.now found.now) }
 {
     let heading = heading_of(instance, found, version);

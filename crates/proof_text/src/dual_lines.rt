@@ -4,7 +4,7 @@ ghost use Rattle.std.specs.Prelude.{◌≡◌, ◌<◌};
 ghost use Rattle.cert_scan.specs.Versions.{version_number};
 ghost use Rattle.cert_format.specs.Puts.{PutsLine, PutsLines};
 ghost use Rattle.cert_format.specs.DualItems.{dual_items_from};
-ghost use Rattle.kept_cuts.specs.Kept.{kept_of, IsKeptFor};
+ghost use Rattle.cut_pool.specs.Kept.{kept_of, IsKeptFor};
 ghost use Rattle.dual_lender.specs.Lenders.{kept_dual, IsLenderFor, IsReady, HasDuals};
 ghost use Rattle.proof_text.specs.Certificates.{mark_said};
 ghost use Rattle.proof_text.specs.Texts.{head_item, duals_with, kept_dual_items};
@@ -17,7 +17,7 @@ use cert_format::{Version, put_cut, put_dual, put_marked_cut};
 use dual_lender::DualLender;
 use hub_io::{Buffer, Failed, Sink};
 use hub_model::Instance;
-use kept_cuts::KeptCut;
+use cut_pool::KeptCut;
 
 /// Puts the line that begins the cut, with the mark that the version says.
 pub(crate) fn put_cut_line<K: Sink>(

@@ -4,14 +4,14 @@ ghost use Rattle.std.specs.Prelude.{◌≡◌, ◌<◌};
 ghost use Rattle.cert_spec.specs.Lines.{says_dual};
 ghost use Rattle.cert_format.specs.Puts.{PutsLine, PutsLines};
 ghost use Rattle.cert_format.specs.DualItems.{dual_items_from};
-ghost use Rattle.kept_cuts.specs.Kept.{kept_of, IsKeptFor};
+ghost use Rattle.cut_pool.specs.Kept.{kept_of, IsKeptFor};
 ghost use Rattle.dual_lender.specs.Lenders.{kept_dual, HasDuals};
 
 use cert_format::put_dual;
 use dual_lender::DualLender;
 use hub_io::{Buffer, Failed, Sink};
 use hub_model::Instance;
-use kept_cuts::KeptCut;
+use cut_pool::KeptCut;
 
 /// Puts a line for each run of equal duals of the commodities from `i`. It takes no memory.
 ///

@@ -4,15 +4,16 @@ ghost use Rattle.hub_spec.specs.Problem.{IsProblem};
 ghost use Rattle.hub_spec.specs.Trees.{Tree};
 ghost use Rattle.cert_scan.specs.Versions.{version_number};
 ghost use Rattle.cert_format.specs.Parts.{IsHeadingOf};
-ghost use Rattle.kept_cuts.specs.Findings.{IsProved, proof_of};
+ghost use Rattle.cut_pool.specs.Findings.{proof_of};
+ghost use Rattle.proof_text.specs.Certificates.{CanBeStated};
 
 use cert_format::{Heading, Version};
 use hub_model::Instance;
-use kept_cuts::Found;
+use cut_pool::Found;
 
 /// What the first lines of the certificate say, in this version.
 pub(crate) fn heading_of(instance: &Instance, found: &Found, version: Version) -> Heading
-    requires { IsProved instance.now found.now }
+    requires { CanBeStated instance.now found.now }
     ensures problem { IsProblem instance.now }
     ensures heading { (tree : Tree) →
         IsHeadingOf result (proof_of (version_number version) instance.now found.now tree) }

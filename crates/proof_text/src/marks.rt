@@ -2,12 +2,12 @@
 
 ghost use Rattle.std.specs.Prelude.{◌≡◌, map, option_map, IfOk};
 ghost use Rattle.cert_scan.specs.Versions.{version_number};
-ghost use Rattle.kept_cuts.specs.Kept.{kept_of};
+ghost use Rattle.cut_pool.specs.Kept.{kept_of};
 ghost use Rattle.proof_text.specs.Certificates.{mark_said};
 
 use cert_format::Version;
-use core_marks::{DualProof, Mark};
-use kept_cuts::{KeptCut, KeptCuts};
+use cut_model::{DualProof, Mark};
+use cut_pool::{KeptCut, KeptCuts};
 use std::alloc::{AllocError, Global};
 
 /// The mark that a text of the version says of the cut, if it says one: only the third says marks.

@@ -2,7 +2,7 @@
 
 use cert_format::Version;
 use hub_model::Instance;
-use kept_cuts::KeptCut;
+use cut_pool::KeptCut;
 
 /// A kept cut of the instance, whose lines are put in this version under this number, counted from 1.
 #[derive(Clone, Copy)]

@@ -3,7 +3,7 @@
 ghost use Rattle.std.specs.Prelude.{◌≡◌, ◌+◌, ◌/◌, ◌%◌, ◌<◌};
 ghost use Rattle.cert_scan.specs.Versions.{version_number};
 ghost use Rattle.cert_format.specs.Puts.{PutsLines};
-ghost use Rattle.kept_cuts.specs.Kept.{kept_of, IsKeptFor};
+ghost use Rattle.cut_pool.specs.Kept.{kept_of, IsKeptFor};
 ghost use Rattle.dual_lender.specs.Lenders.{IsLenderFor, IsReady};
 ghost use Rattle.proof_text.specs.Texts.{head_items, origin_items};
 ghost use Rattle.proof_text.specs.Places.{AreLines, place_count, cut_of, items_of};
@@ -14,7 +14,7 @@ use cert_format::Version;
 use dual_lender::DualLender;
 use hub_io::{Buffer, Failed, Sink};
 use hub_model::Instance;
-use kept_cuts::{KeptCut, KeptCuts};
+use cut_pool::{KeptCut, KeptCuts};
 
 /// The cuts of a finding for the instance, whose lines are put in this version.
 #[derive(Drop)]

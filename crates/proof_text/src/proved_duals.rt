@@ -3,16 +3,16 @@
 ghost use Rattle.std.specs.Prelude.{◌≡◌, ◌*◌, ◌<◌, ◌∷◌, [], length};
 ghost use Rattle.cert_spec.specs.Lines.{says_dual, says_proof};
 ghost use Rattle.cert_format.specs.Puts.{PutsLines};
-ghost use Rattle.kept_cuts.specs.Kept.{kept_of, IsKeptFor};
+ghost use Rattle.cut_pool.specs.Kept.{kept_of, IsKeptFor};
 ghost use Rattle.dual_lender.specs.Lenders.{kept_dual, HasDuals, made_dual};
 ghost use Rattle.proof_text.specs.Texts.{proved_from};
 
 use crate::numbered::NumberedCut;
 use cert_format::{put_dual, put_proof};
-use core_marks::DualProof;
+use cut_model::DualProof;
 use dual_lender::DualLender;
 use hub_io::{Buffer, Failed, Sink};
-use kept_cuts::KeptCut;
+use cut_pool::KeptCut;
 
 /// Puts a line for the dual of each commodity from `i`, and behind it that of its proof, which stands at the number of the
 /// commodity. It takes no memory.

@@ -5,10 +5,9 @@ ghost use Rattle.cert_spec.specs.Text.{cut_items_as};
 ghost use Rattle.hub_io.specs.Outside.{Puts};
 ghost use Rattle.cert_scan.specs.Versions.{version_number};
 ghost use Rattle.cert_format.specs.Puts.{PutsLines};
-ghost use Rattle.kept_cuts.specs.Kept.{kept_of, kept_cut, IsKeptFor};
-ghost use Rattle.kept_cuts.specs.Findings.{IsProved};
+ghost use Rattle.cut_pool.specs.Kept.{kept_of, kept_cut, IsKeptFor};
 ghost use Rattle.dual_lender.specs.Lenders.{IsLenderFor};
-ghost use Rattle.proof_text.specs.Certificates.{mark_said};
+ghost use Rattle.proof_text.specs.Certificates.{mark_said, CanBeStated};
 ghost use Rattle.proof_text.specs.Places.{AreLines};
 ghost use Rattle.proof_text.specs.Texts.{kept_items, found_top_items, found_items, found_text};
 
@@ -21,7 +20,7 @@ use cert_format::{Version, put_top, put_tree};
 use dual_lender::DualLender;
 use hub_io::{Buffer, Failed, Sink};
 use hub_model::Instance;
-use kept_cuts::{Found, KeptCuts};
+use cut_pool::{Found, KeptCuts};
 use std::thread::Threads;
 
 /// What a search of the instance found, and the version of the text that is written of it.
@@ -43,7 +42,7 @@ pub fn write_found<R: Threads + Sync, K: Sink>(
     sink: &mut K,
 ) -> Result<(), Failed>
     requires lender { IsLenderFor finding.now.instance.now lender.old }
-    requires proved { IsProved finding.now.instance.now finding.now.found.now }
+    requires found { CanBeStated finding.now.instance.now finding.now.found.now }
     requires workers { (1 ≤ workers.now.count) × (workers.now.count ≤ 64) }
     ensures lender { IsLenderFor finding.now.instance.now lender.new }
     ensures text { Puts K.taken K.faults sink.old sink.new result
@@ -62,7 +61,7 @@ fn put_found<R: Threads + Sync, K: Sink>(
     sink: &mut K,
 ) -> Result<(), Failed>
     requires lender { IsLenderFor finding.now.instance.now lender.old }
-    requires proved { IsProved finding.now.instance.now finding.now.found.now }
+    requires found { CanBeStated finding.now.instance.now finding.now.found.now }
     requires workers { (1 ≤ workers.now.count) × (workers.now.count ≤ 64) }
     ensures lender { IsLenderFor finding.now.instance.now lender.new }
     ensures lines { PutsLines K.taken K.faults sink.old sink.new buffer.old buffer.new result
@@ -112,7 +111,7 @@ fn put_found_top<K: Sink>(
     buffer: &mut Buffer,
     sink: &mut K,
 ) -> Result<(), Failed>
-    requires { IsProved finding.now.instance.now finding.now.found.now }
+    requires { CanBeStated finding.now.instance.now finding.now.found.now }
     ensures { PutsLines K.taken K.faults sink.old sink.new buffer.old buffer.new result
         (found_top_items (version_number finding.now.version) finding.now.instance.now finding.now.found.now) }
 {

@@ -11,7 +11,7 @@ use Rattle.search_spec.proofs.Invariants.{IsReady, IsNext}
 use Rattle.search_spec.proofs.Leaves.{double}
 use Rattle.search_spec.proofs.Parting.{child_power}
 use Rattle.search_spec.proofs.Rounds.{ready_next}
-use Rattle.tree_walks.specs.Walks.{IsSoundLine, filled}
+use Rattle.search_spec.specs.Walks.{IsSoundLine, filled}
 use Rattle.rounds_spec.specs.Places.{Place, line, open_at, lines_of, joined, forest, first_tree}
 
 -- a leaf lists its weights as a line does

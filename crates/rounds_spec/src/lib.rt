@@ -7,7 +7,7 @@
 //! by its cases, for the code that does what the rule says.
 #![tactic(auto)]
 
-ghost use Rattle.rounds_spec.specs.Theorems.{SearchIsSound, SearchIsCounted, StopIsForNodes, EnoughNodesSuffice, EachRoundFalls, RoundsAreOver, RoundIsByOutcomes};
+ghost use Rattle.rounds_spec.specs.Theorems.{SearchIsSound, SearchIsCounted, StopIsForNodes, EnoughNodesSuffice, CostNeverRises, EachRoundFalls, RoundsAreOver, RoundIsByOutcomes};
 
 /// What a search by rounds finds shows its answer: the cuts are cuts, the tree is sound for the answer, and the incumbent
 /// costs what it says. This is so whatever number of nodes is allowed.
@@ -28,6 +28,11 @@ pub fn stop_is_for_nodes()
 /// With no number of nodes, or as many as a whole tree has, a search does not stop.
 pub fn enough_nodes_suffice()
     ensures { EnoughNodesSuffice }
+{}
+
+/// What a search finds costs at most what it began with.
+pub fn cost_never_rises()
+    ensures { CostNeverRises }
 {}
 
 /// Each round of a search leaves fewer turns than there were, so that the rounds end.

@@ -1,6 +1,6 @@
 //! What a search begins again with.
 
-use stated_cuts::StatedCut;
+use cut_model::StatedCut;
 
 /// What a search begins again with: cuts that are given, and hubs that are tried first.
 #[derive(Drop)]

@@ -9,8 +9,8 @@ use Rattle.hub_spec.specs.Cuts.{Cut}
 use Rattle.hub_spec.proofs.SetCosts.{one_set_cost}
 use Rattle.core_spec.specs.CoreCuts.{Mark}
 use Rattle.plan_model.specs.declared.tree_lines.TreeLine.{TreeLine}
-use Rattle.marked_cuts.specs.MarkedCuts.{MarkedCut}
-use Rattle.kept_cuts.specs.Kept.{Kept, kept_set, kept_cut, kept_mark}
+use Rattle.cut_model.specs.MarkedCuts.{MarkedCut}
+use Rattle.cut_pool.specs.Kept.{Kept, kept_set, kept_cut, kept_mark}
 use Rattle.cut_pool.specs.Entries.{Sums, Entry, entry_of}
 use Rattle.cut_pool.specs.declared.pool.Refused.{Refused}
 use Rattle.search_spec.specs.Steps.{separated}
@@ -20,12 +20,12 @@ use Rattle.search_spec.proofs.StepCases.{separated_cheaper, separated_dearer}
 use Rattle.search_steps.specs.Pools.{entry_cut, IsSumsOf, IsPoolOf, pool_sets, pool_cuts, pool_marks, state_by}
 use Rattle.search_core.specs.declared.tasks.Task.{Task}
 use Rattle.search_progress.specs.declared.progress.Progress.{Progress}
-use Rattle.kept_cuts.specs.Findings.{lines_of}
+use Rattle.cut_pool.specs.Findings.{lines_of}
 use Rattle.search_steps.specs.Advising.{parts_of}
 use Rattle.search_steps.proofs.RuleChoices.{parts_sound}
-use Rattle.separators.specs.Kinds.{CutKind, parts_for}
-use Rattle.separators.specs.Entered.{IsEntryOf}
-use Rattle.separators.proofs.KindCuts.{kept_of_set}
+use Rattle.search_progress.specs.Kinds.{CutKind, parts_for}
+use Rattle.search_progress.specs.Entered.{IsEntryOf}
+use Rattle.search_progress.proofs.KindCuts.{kept_of_set}
 use Rattle.search_progress.specs.Progressing.{state_of, IsGoing, IsAt}
 use Rattle.search_progress.specs.Separating.{HasCut, IsAdded}
 

@@ -13,9 +13,9 @@ use Rattle.search_spec.specs.States.{State, Grown, lesser, answer}
 use Rattle.search_steps.specs.Pools.{entry_cut}
 use Rattle.search_core.specs.declared.tasks.Task.{Task}
 use Rattle.search_progress.specs.declared.progress.Progress.{Progress}
-use Rattle.kept_cuts.specs.Kept.{kept_set, kept_cuts, kept_mark}
-use Rattle.kept_cuts.specs.Findings.{lines_of}
-use Rattle.kept_cuts.specs.declared.found.Found.{Found}
+use Rattle.cut_pool.specs.Kept.{kept_set, kept_cuts, kept_mark}
+use Rattle.cut_pool.specs.Findings.{lines_of}
+use Rattle.cut_pool.specs.declared.found.Found.{Found}
 use Rattle.search_progress.specs.Findings.{IsFound}
 use Rattle.search_progress.specs.Progressing.{state_of, IsGoing}
 use Rattle.search_progress.proofs.FoundCertificates.{few_lines_of}

@@ -18,11 +18,11 @@ use Rattle.search_spec.proofs.FoundProofs.{certificate_holds_lem, certificate_in
 use Rattle.search_spec.proofs.LeastRoutes.{certificate_is_one_lem}
 use Rattle.search_steps.specs.Advising.{parts_of}
 use Rattle.search_steps.proofs.RuleChoices.{parts_sound}
-use Rattle.separators.specs.Kinds.{CutKind, parts_for}
-use Rattle.separators.proofs.KindCuts.{kind_is_sound}
-use Rattle.kept_cuts.specs.Findings.{proof_of, IsUnlimited, IsProved}
-use Rattle.kept_cuts.specs.declared.found.Found.{Found}
-use Rattle.kept_cuts.proofs.Versions.{has_text}
+use Rattle.search_progress.specs.Kinds.{CutKind, parts_for}
+use Rattle.search_progress.proofs.KindCuts.{kind_is_sound}
+use Rattle.cut_pool.specs.Findings.{proof_of, IsUnlimited, IsProved}
+use Rattle.cut_pool.specs.declared.found.Found.{Found}
+use Rattle.cut_pool.proofs.Versions.{has_text}
 use Rattle.search_progress.specs.Findings.{IsFound}
 
 -- the state that a search begins with

@@ -5,8 +5,8 @@ use Rattle.hub_spec.specs.Problem.{Problem}
 use Rattle.hub_spec.specs.Cuts.{Cut, total}
 use Rattle.core_spec.specs.CoreCuts.{Mark}
 use Rattle.cut_pool.specs.Entries.{Entry}
-use Rattle.kept_cuts.specs.Kept.{Kept, by_values, by_set, cored, given, kept_set, kept_cuts, kept_mark, IsRemade, KeptList, IsKeptFor, node_loads, AreKeptFor}
-use Rattle.kept_cuts.proofs.NodeLoads.{loads_are}
+use Rattle.cut_pool.specs.Kept.{Kept, by_values, by_set, cored, given, kept_set, kept_cuts, kept_mark, IsRemade, KeptList, IsKeptFor, node_loads, AreKeptFor}
+use Rattle.cut_pool.proofs.NodeLoads.{loads_are}
 use Rattle.search_steps.specs.Pools.{entry_cut, IsSumsOf, IsPoolOf, pool_sets, pool_cuts, pool_marks}
 
 -- the columns are those of the entries

@@ -7,3 +7,5 @@ pub mod FoundCertificates
 pub mod Starts
 pub mod Ends
 pub mod LeftFixings
+pub mod KindCuts
+pub mod WholeCuts

@@ -20,9 +20,9 @@ use Rattle.search_spec.proofs.RuleParts.{has_when}
 use Rattle.search_steps.specs.Pools.{IsSumsOf, pool_sets, pool_cuts, pool_marks, state_by}
 use Rattle.search_core.specs.declared.tasks.Task.{Task}
 use Rattle.search_progress.specs.declared.progress.Progress.{Progress}
-use Rattle.kept_cuts.specs.Kept.{kept_set}
+use Rattle.cut_pool.specs.Kept.{kept_set}
 use Rattle.search_steps.specs.Advising.{parts_of}
-use Rattle.separators.specs.Kinds.{CutKind, minimal, parts_for}
+use Rattle.search_progress.specs.Kinds.{CutKind, minimal, parts_for}
 use Rattle.search_progress.specs.Progressing.{state_of, IsGoing}
 use Rattle.search_progress.specs.Separating.{HasCut}
 use Rattle.search_steps.specs.Starts.{least_wanted, first_set}

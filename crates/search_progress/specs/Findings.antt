@@ -6,9 +6,9 @@ use Rattle.hub_spec.specs.Problem.{Problem, commodities}
 use Rattle.hub_spec.specs.Plans.{IsLeastRoute}
 use Rattle.hub_spec.specs.Trees.{preorder, line_count}
 use Rattle.search_spec.specs.States.{Grown, answer}
-use Rattle.kept_cuts.specs.Kept.{kept_set, kept_cuts, kept_mark, AreKeptFor}
-use Rattle.kept_cuts.specs.Findings.{lines_of}
-use Rattle.kept_cuts.specs.declared.found.Found.{Found}
+use Rattle.cut_pool.specs.Kept.{kept_set, kept_cuts, kept_mark, AreKeptFor}
+use Rattle.cut_pool.specs.Findings.{lines_of}
+use Rattle.cut_pool.specs.declared.found.Found.{Found}
 
 -- the code's finding is this one: what is kept of its cuts are the hub sets that were separated, with their orders or as core
 -- cuts with their marks, and the cuts that were given

@@ -7,7 +7,7 @@ use Rattle.search_spec.specs.States.{State}
 use Rattle.search_steps.specs.Pools.{IsPoolOf, HasGrown, state_by}
 use Rattle.search_core.specs.declared.tasks.Task.{Task}
 use Rattle.search_progress.specs.declared.progress.Progress.{Progress}
-use Rattle.kept_cuts.specs.Findings.{lines_of}
+use Rattle.cut_pool.specs.Findings.{lines_of}
 
 -- what the code has, as a state
 abbrev pub state_of : Problem → Progress → State

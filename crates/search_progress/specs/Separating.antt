@@ -3,8 +3,8 @@ use Rattle.std.specs.Prelude.{◌≡◌, ℕ, List, [], ◌∷◌, ◌++◌}
 use Rattle.hub_spec.specs.Problem.{Problem}
 use Rattle.cut_pool.specs.Entries.{Entry}
 use Rattle.search_steps.specs.Advising.{parts_of}
-use Rattle.separators.specs.Kinds.{CutKind}
-use Rattle.separators.specs.Entered.{IsEntryOf}
+use Rattle.search_progress.specs.Kinds.{CutKind}
+use Rattle.search_progress.specs.Entered.{IsEntryOf}
 
 -- the entries have this one more, which is of the set, and the set costs this
 pub record IsAdded (p : Problem) (kept more : List Entry) (entry : Entry) (set : List ℕ) (price : ℕ) : Type 0 where

@@ -3,13 +3,13 @@
 ghost use Rattle.std.specs.Prelude.{◌≡◌, IfOk};
 ghost use Rattle.hub_spec.specs.Trees.{preorder};
 ghost use Rattle.search_spec.specs.States.{Grown};
-ghost use Rattle.kept_cuts.specs.Findings.{lines_of};
+ghost use Rattle.cut_pool.specs.Findings.{lines_of};
 ghost use Rattle.search_progress.specs.Progressing.{state_of, IsGoing};
 ghost use Rattle.search_progress.specs.Findings.{IsFound};
 
 use crate::progress::Progress;
 use assign_sub::assign;
-use kept_cuts::Found;
+use cut_pool::Found;
 use plan_model::Plan;
 use search_core::{Task, lesser};
 use std::alloc::{AllocError, Global};

@@ -11,14 +11,22 @@
 //! Costs are in 10^-12 and weights in 10^-6; nodes are `u32`, counted from 0, and cuts are counted from 1.
 #![tactic(auto)]
 
+mod asking;
+mod coring;
 mod finishing;
+mod laws;
 mod progress;
 mod separating;
+mod solos;
 mod starting;
 mod stopping;
 
+pub use asking::{Separated, Separator};
+pub use coring::Coring;
 pub use finishing::finish;
+pub use laws::{kept_is_of_set, minimal_is_rule, parts_are_sound};
 pub use progress::{Progress, may_split, two_more};
 pub use separating::{keep, number_of, separate};
+pub use solos::Solo;
 pub use starting::begin;
 pub use stopping::stopped_leaf;

@@ -8,19 +8,19 @@ ghost use Rattle.cut_pool.specs.Entries.{entry_of, core_entry, Lacks};
 ghost use Rattle.search_spec.specs.States.{number_in_pool};
 ghost use Rattle.search_spec.specs.Steps.{separated};
 ghost use Rattle.search_steps.specs.Pools.{IsSumsOf};
-ghost use Rattle.separators.specs.Kinds.{CutKind, parts_for};
-ghost use Rattle.separators.specs.Entered.{entry_with, hubs_in, IsEntryOf};
+ghost use Rattle.search_progress.specs.Kinds.{CutKind, parts_for};
+ghost use Rattle.search_progress.specs.Entered.{entry_with, hubs_in, IsEntryOf};
 ghost use Rattle.search_progress.specs.Progressing.{state_of, IsGoing, IsAt};
 ghost use Rattle.search_progress.specs.Separating.{HasCut, IsAdded};
 
 use crate::progress::Progress;
+use crate::{Separated, Separator};
 use assign_sub::cost_of_set;
+use cut_model::MarkedCut;
 use cut_pool::{CutSums, Pool};
 use hub_model::{Instance, MOST_CUTS};
-use marked_cuts::MarkedCut;
 use plan_model::HubSet;
 use search_core::Task;
-use separators::{Separated, Separator};
 use std::alloc::{AllocError, Global};
 
 /// The number of the set's cut in the pool, counted from 1, if it has been separated.

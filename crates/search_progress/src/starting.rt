@@ -4,11 +4,12 @@ ghost use Rattle.std.specs.Prelude.{◌≡◌, [], Some, IfOk, OnOk};
 ghost use Rattle.hub_spec.specs.Plans.{IsHubSet};
 ghost use Rattle.search_spec.specs.Steps.{begun};
 ghost use Rattle.search_spec.specs.Choices.{begun_for};
-ghost use Rattle.separators.specs.Kinds.{parts_for};
+ghost use Rattle.search_progress.specs.Kinds.{parts_for};
 ghost use Rattle.search_steps.specs.Starts.{first_set};
-ghost use Rattle.kept_cuts.specs.Findings.{lines_of};
+ghost use Rattle.cut_pool.specs.Findings.{lines_of};
 ghost use Rattle.search_progress.specs.Progressing.{state_of, IsGoing};
 
+use crate::Separator;
 use crate::progress::Progress;
 use crate::separating::add_cut;
 use cut_pool::Pool;
@@ -16,7 +17,6 @@ use hub_plain::outside;
 use plan_model::HubSet;
 use search_core::Task;
 use search_steps::Rule;
-use separators::Separator;
 use std::alloc::{AllocError, Global};
 
 /// The cut of the set of all candidates, and that of the rule's first set, if it has one, which is then the first

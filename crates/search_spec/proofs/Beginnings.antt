@@ -5,7 +5,7 @@ use Rattle.std.specs.List.{AllZip, list_all}
 use Rattle.std.specs.List.Sorted.{IsStrictlyIncreasing}
 use Rattle.std.proofs.lemmas.Bool.{and_parts}
 use Rattle.std.proofs.lemmas.List.{append-nil, append_assoc, map-append, length-append, get_or_append_left, get_or-append-add}
-use Rattle.std.proofs.lemmas.List.Elements.{All-nil, All-cons, All-append}
+use Rattle.std.proofs.lemmas.List.Elements.{All-nil, All-cons, All-head, All-tail, All-append}
 use Rattle.hub_spec.specs.Problem.{Problem, IsProblem, commodities}
 use Rattle.hub_spec.specs.Plans.{HasRoute, HasWanted, IsHubSet}
 use Rattle.hub_spec.specs.Cuts.{Cut, cut_by, IsCut}
@@ -24,7 +24,7 @@ use Rattle.search_spec.specs.Again.{Start, start_of, IsStartOf, with_given, has_
 use Rattle.search_spec.proofs.Keeping.{IsKept, kept_same, kept_twice}
 use Rattle.search_spec.proofs.Separated.{separated_next, separated_made, separated_stop}
 use Rattle.hub_spec.proofs.Lacking.{none_lacked}
-use Rattle.search_spec.proofs.RuleParts.{in_when}
+use Rattle.search_spec.proofs.RuleParts.{has_when, in_when}
 use Rattle.search_spec.proofs.FoundProofs.{answer_bounds_lem}
 use Rattle.search_spec.proofs.WholeSearches.{begun_by, root_grown, lesser_none}
 
@@ -70,7 +70,13 @@ given_cuts cuts s = refl
 
 -- ---- hubs that are tried
 
-all_in : (ks hubs : List ℕ) → list_all (has_node ks) hubs ≡ true → All (Contains ks) hubs
+pub all_has : (ks hubs : List ℕ) → All (Contains ks) hubs → list_all (has_node ks) hubs ≡ true
+all_has ks [] are = refl
+all_has ks (h ∷ hs) are =
+    let first = has_when ks h (All-head (Contains ks) h hs are) in
+    rw first (all_has ks hs (All-tail (Contains ks) h hs are))
+
+pub all_in : (ks hubs : List ℕ) → list_all (has_node ks) hubs ≡ true → All (Contains ks) hubs
 all_in ks [] e = All-nil (Contains ks)
 all_in ks (h ∷ hs) e =
     let parts = and_parts (has_node ks h) (list_all (has_node ks) hs) e in

@@ -9,7 +9,7 @@ use Rattle.std.proofs.lemmas.Slice.Eq.{bytes_eq-Decides}
 use Rattle.hub_spec.specs.Problem.{Problem}
 use Rattle.hub_spec.specs.Cuts.{Cut}
 use Rattle.leaf_bound.specs.Bounds.{AreMultiples}
-use Rattle.kept_cuts.specs.Kept.{by_set, kept_set, kept_mark}
+use Rattle.cut_pool.specs.Kept.{by_set, kept_set, kept_mark}
 use Rattle.search_spec.specs.States.{is_of, number_in_pool}
 use Rattle.search_spec.specs.Again.{with_given}
 use Rattle.search_spec.proofs.Separated.{of_set}

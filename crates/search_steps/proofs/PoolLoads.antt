@@ -1,5 +1,5 @@
 -- The entries of a pool as cuts of the problem, and what their loads are within for one unit of a cut's part.
-use Rattle.std.proofs.Common.{◌≡◌, ℕ, zero, suc, ◌*◌, ◌/◌, ◌<◌, ◌≤◌, max, List, [], ◌∷◌, length, map, get_or, All, refl, ap, sym, ◌∙◌, true≢false, div-mul-le_self, arith}
+use Rattle.std.proofs.Common.{◌≡◌, ℕ, zero, suc, ◌*◌, ◌/◌, ◌<◌, ◌≤◌, max, List, [], ◌∷◌, length, map, get_or, All, Contains, refl, ap, sym, ◌∙◌, true≢false, div-mul-le_self, arith}
 use Rattle.std.specs.Prelude.{slice_index}
 use Rattle.std.proofs.Math.Nat.{zero-div}
 use Rattle.std.proofs.lemmas.Nat.{le-div}
@@ -10,11 +10,12 @@ use Rattle.hub_spec.specs.Problem.{Problem, IsProblem, commodities}
 use Rattle.hub_spec.specs.Plans.{IsHubSet}
 use Rattle.hub_spec.specs.Cuts.{Cut, total, load, IsCut}
 use Rattle.hub_spec.specs.Separation.{IsOrder, IsSetCut, set_cut}
+use Rattle.hub_spec.proofs.Mixes.{candidate_is_node}
 use Rattle.hub_spec.proofs.SetCutFunction.{set_cut_is_one_lem}
 use Rattle.hub_spec.proofs.SetCuts as sets
 use Rattle.hub_spec.proofs.SetCuts.{loads_within, set_cut_is_cut}
 use Rattle.hub_spec.proofs.SumLemmas.{by_test}
-use Rattle.kept_cuts.specs.Kept.{Kept, by_values, by_set, cored, given, kept_cut, kept_part, IsKeptFor, IsPooled}
+use Rattle.cut_pool.specs.Kept.{Kept, by_values, by_set, cored, given, kept_cut, kept_part, IsKeptFor, IsPooled}
 use Rattle.search_spec.specs.Choices.{has_node}
 use Rattle.search_spec.proofs.RuleParts.{has_when, in_when}
 use Rattle.search_spec.proofs.Loads.{no_load_off}
@@ -72,17 +73,13 @@ entry_total p e ok is =
     let limit = (entry_is_cut p e ok is).sums.total_limit in
     rw (is.is_total, part_is p e is) limit
 
--- a candidate's load is within the limit, and there is none off the candidates
-cut_load : (p : Problem) (cut : Cut) (k : ℕ) → IsCut p cut → load cut k ≤ cut.part * most_cost
-cut_load p cut k is =
-    by_test (has_node p.candidates k)
-    (λ e. All-contains (λ (m : ℕ). load cut m ≤ cut.part * most_cost) p.candidates k is.sums.load_limit (in_when p.candidates k e))
-    (λ e. let none = no_load_off p cut k is (λ c. true≢false (sym (has_when p.candidates k c) ∙ e)) in rw none (omega arith))
-
-pub entry_load : (p : Problem) (e : Entry) (k : ℕ) → IsProblem p → IsSumsOf p e → k < p.size → get_or e.loads k 0 ≤ entry_part e * most_cost
-entry_load p e k ok is node =
-    let limit = cut_load p (entry_cut p e) k (entry_is_cut p e ok is) in
-    rw (is.are_loads k node, part_is p e is) limit
+pub entry_load : (p : Problem) (e : Entry) (k : ℕ) → IsProblem p → IsSumsOf p e → Contains p.candidates k
+    → get_or e.loads k 0 ≤ entry_part e * most_cost
+entry_load p e k ok is candidate =
+    let cut = entry_cut p e in
+    let limits = (entry_is_cut p e ok is).sums.load_limit in
+    let limit = All-contains (λ (m : ℕ). load cut m ≤ cut.part * most_cost) p.candidates k limits candidate in
+    rw (is.are_loads k (candidate_is_node p k ok candidate), part_is p e is) limit
 
 -- ---- loads within totals and the greatest load of the cuts that are kept with their duals
 

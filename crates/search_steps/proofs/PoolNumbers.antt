@@ -1,14 +1,15 @@
 -- The numbers that a pool lends are those of its entries' cuts.
-use Rattle.std.proofs.Common.{◌≡◌, ℕ, ◌/◌, ◌^◌, ◌<◌, ◌≤◌, max, slice_index, List, [], ◌∷◌, length, map, get_or, All, refl, sym, ap, ap₂, ◌∙◌, arith}
+use Rattle.std.proofs.Common.{◌≡◌, ℕ, ◌/◌, ◌^◌, ◌<◌, ◌≤◌, max, slice_index, List, [], ◌∷◌, length, map, get_or, All, Contains, refl, sym, ap, ap₂, ◌∙◌, arith}
 use Rattle.std.specs.List.{AllZip}
 use Rattle.std.proofs.lemmas.List.{length-map, get_or-map}
 use Rattle.std.proofs.lemmas.Grind.{same_number_lists}
 use Rattle.std.proofs.lemmas.List.FromFn.{get_or-map-range_with_len, length-map-range_with_len}
-use Rattle.std.proofs.lemmas.List.Elements.{All-nil, All-cons, All-head, All-tail, All-weaker, All-map, All-from_get_or}
+use Rattle.std.proofs.lemmas.List.Elements.{All-nil, All-cons, All-head, All-tail, All-weaker, All-map}
 use Rattle.hub_spec.specs.Limits.{most_part}
 use Rattle.hub_spec.specs.Problem.{Problem, IsProblem}
 use Rattle.hub_spec.specs.Cuts.{Cut, total, load}
-use Rattle.leaf_bound.specs.Numbers.{IsSumOf, AreSumsOf}
+use Rattle.leaf_bound.specs.Numbers.{IsSumOf}
+use Rattle.leaf_bound.specs.Bounds.{loads_of}
 use Rattle.leaf_bound.specs.Theorems.{AreLoadsOf}
 use Rattle.frac_master.specs.Masters.{AreShortRows, AreWithinTotals, halved}
 use Rattle.cut_pool.specs.Entries.{Entry, entry_part, unit_totals, unit_loads, most_stated}
@@ -68,19 +69,19 @@ totals_sums p (e ∷ entries) ok are = (
   totals_sums p entries ok (All-tail (IsSumsOf p) e entries are),
 )
 
-row_sums : (p : Problem) (e : Entry) (n : ℕ) → IsProblem p → IsSumsOf p e → n ≡ p.size → AreSumsOf n (entry_part e) e.loads
-row_sums p e n ok is size = (
-  is.one_load_each ∙ sym size,
-  All-from_get_or (IsSumOf (entry_part e)) e.loads 0 (λ k low. entry_load p e k ok is (omega (arith, low, is.one_load_each))),
+pub loads_sums : (p : Problem) (entries : List Entry) (k : ℕ) → IsProblem p → IsPoolOf p entries → Contains p.candidates k
+    → AllZip IsSumOf (lent_parts entries) (loads_of (lent_loads entries) k)
+loads_sums p [] k ok are candidate = tt
+loads_sums p (e ∷ entries) k ok are candidate = (
+  entry_load p e k ok (All-head (IsSumsOf p) e entries are) candidate,
+  loads_sums p entries k ok (All-tail (IsSumsOf p) e entries are) candidate,
 )
 
-pub loads_sums : (p : Problem) (entries : List Entry) (n : ℕ) → IsProblem p → IsPoolOf p entries → n ≡ p.size
-    → AllZip (AreSumsOf n) (lent_parts entries) (lent_loads entries)
-loads_sums p [] n ok are size = tt
-loads_sums p (e ∷ entries) n ok are size = (
-  row_sums p e n ok (All-head (IsSumsOf p) e entries are) size,
-  loads_sums p entries n ok (All-tail (IsSumsOf p) e entries are) size,
-)
+pub rows_long : (p : Problem) (entries : List Entry) (n : ℕ) → IsPoolOf p entries → n ≡ p.size
+    → All (λ (row : List ℕ). length row ≡ n) (lent_loads entries)
+rows_long p entries n are size =
+    All-map (λ (row : List ℕ). length row ≡ n) (λ (e : Entry). e.loads) entries
+    (All-weaker (IsSumsOf p) (λ (e : Entry). length e.loads ≡ n) (λ e is. is.one_load_each ∙ sym size) entries are)
 
 pub loads_long : (p : Problem) (entries : List Entry) (n : ℕ) → IsPoolOf p entries → n ≡ p.size
     → All (λ (row : List ℕ). length row ≡ n) (unit_loads entries)

@@ -2,23 +2,23 @@
 use Rattle.std.proofs.Common.{◌≡◌, ℕ, ◌*◌, ◌≤◌, ℤ, pos, ◌-ℤ◌, List, length, get_or, All, Option, Some, None, if◌then◌else◌, int_lt, sym, ap, ap₂, subst, ◌∙◌, arith}
 use Rattle.std.specs.List.{AllZip}
 use Rattle.std.proofs.lemmas.List.{length-map}
-use Rattle.hub_spec.specs.Limits.{most_part, most_fixed_cost}
+use Rattle.hub_spec.specs.Limits.{most_part}
 use Rattle.hub_spec.specs.Problem.{Problem, IsProblem, fixed_cost}
 use Rattle.hub_spec.specs.Trees.{Branching, leaf_bound, IsBranch}
 use Rattle.leaf_bound.specs.declared.weightings.Weighting as lent
 use Rattle.leaf_bound.specs.Bounds.{bound_of}
-use Rattle.leaf_bound.specs.Numbers.{AreWeightingNumbers, IsBranchBelow, weighting_of}
+use Rattle.leaf_bound.specs.Numbers.{AreWeightingNumbers, IsBranchWithin, weighting_of}
 use Rattle.leaf_bound.specs.Theorems.{weight_pairs, AreLoadsOf, IsWeightingOf}
 use Rattle.leaf_bound.proofs.LeafWeights.{leaf_has_bound}
 use Rattle.search_spec.specs.States.{State, denominator}
 use Rattle.search_spec.specs.Steps.{bound_at, closes_at, better}
 use Rattle.p_hub.specs.Counted.{counted_of}
 use Rattle.p_hub.proofs.CountedBounds.{leaf_counted}
-use Rattle.cut_pool.specs.Entries.{Entry}
-use Rattle.search_core.proofs.Weightings.{below_size, branch_below}
+use Rattle.cut_pool.specs.Entries.{Entry, entry_part}
+use Rattle.search_core.proofs.Weightings.{below_size, candidate_within, branch_within}
 use Rattle.search_steps.specs.Pools.{entry_cut, IsPoolOf, pool_cuts, state_by}
 use Rattle.search_steps.specs.Weights.{AreNodeWeights, IsNodeWeighting, pairs_of}
-use Rattle.search_steps.proofs.PoolNumbers.{totals_sums, loads_sums, parts_least, parts_are, totals_are, loads_zip}
+use Rattle.search_steps.proofs.PoolNumbers.{totals_sums, loads_sums, rows_long, parts_least, parts_are, totals_are, loads_zip}
 
 -- the weighting has the pool's numbers and the problem's fixed costs, and the weights are a node's
 pub record AreLent (p : Problem) (entries : List Entry) (weights : List ℕ) (m : lent.Weighting) : Type 0 where
@@ -40,18 +40,26 @@ weighting_numbers p entries weights m lent =
       few_weights = omega (arith, many, few);
       are_parts = subst (All (λ (part : ℕ). (1 ≤ part) × (part ≤ most_part))) (sym lent.is.are_parts) (parts_least p entries ok lent.pool);
       are_totals = rw (lent.is.are_parts, lent.is.are_totals) (totals_sums p entries ok lent.pool);
-      are_loads = rw (lent.is.are_parts, lent.is.are_loads) (loads_sums p entries n ok lent.pool size);
-      are_fixed_costs = subst (All (λ (cost : ℕ). cost ≤ most_fixed_cost)) (sym lent.is.are_fixed) ok.cost_limit;
+      as_many_rows = omega (
+        arith,
+        ap length lent.is.are_loads,
+        ap length lent.is.are_parts,
+        length-map entries (λ (e : Entry). e.loads),
+        length-map entries entry_part,
+      );
+      are_wide = rw lent.is.are_loads (rows_long p entries n lent.pool size);
       are_multiples = rw (lent.is.are_weights, lent.is.are_parts) lent.are_weights.multiples;
       weights_limit = rw (lent.is.are_weights, lent.is.is_denom) lent.are_weights.most;
       denom_least = omega (arith, lent.is.is_denom);
       denom_most = omega (arith, lent.is.is_denom);
     }
 
-pub weighted_below : (p : Problem) (entries : List Entry) (weights : List ℕ) (m : lent.Weighting) (b : Branching)
-    → AreLent p entries weights m → IsBranch p b → IsBranchBelow (length m.fixed.now) b
-weighted_below p entries weights m b lent is =
-    branch_below p m.fixed.now b lent.problem lent.is.are_fixed is
+pub weighted_within : (p : Problem) (entries : List Entry) (weights : List ℕ) (m : lent.Weighting) (b : Branching)
+    → AreLent p entries weights m → IsBranch p b → IsBranchWithin m b
+weighted_within p entries weights m b lent is =
+    branch_within p m b
+    (λ k candidate. candidate_within p m k lent.problem lent.is.are_fixed candidate
+    (rw (lent.is.are_parts, lent.is.are_loads) (loads_sums p entries k lent.problem lent.pool candidate))) is
 
 weighting_is : (p : Problem) (entries : List Entry) (weights : List ℕ) (m : lent.Weighting)
     → AreLent p entries weights m → IsWeightingOf p (pool_cuts p entries) (weighting_of m)

@@ -4,7 +4,7 @@ use Rattle.hub_spec.specs.Problem.{Problem}
 use Rattle.hub_spec.specs.Cuts.{Cut, total, load}
 use Rattle.search_spec.specs.States.{State}
 use Rattle.core_spec.specs.CoreCuts.{Mark}
-use Rattle.kept_cuts.specs.Kept.{kept_set, kept_cut, kept_mark, IsKeptFor, IsPooled}
+use Rattle.cut_pool.specs.Kept.{kept_set, kept_cut, kept_mark, IsKeptFor, IsPooled}
 use Rattle.cut_pool.specs.Entries.{Entry}
 
 -- the cut of the entry

@@ -1,7 +1,6 @@
 //! What the master of a node's branch advises.
 
-ghost use Rattle.std.specs.Prelude.{◌≡◌, ◌*◌, ◌/◌, ◌≤◌, length, map, All, IfOk, IfSome};
-ghost use Rattle.hub_spec.specs.Limits.{most_cost};
+ghost use Rattle.std.specs.Prelude.{◌≡◌, ◌*◌, ◌/◌, ◌≤◌, ◌^◌, length, map, All, IfOk, IfSome};
 ghost use Rattle.hub_spec.specs.Trees.{IsBranch};
 ghost use Rattle.frac_master.specs.Advice.{advice_of_code};
 ghost use Rattle.frac_master.specs.Masters.{AreShortRows};
@@ -33,7 +32,7 @@ pub fn node_advice<R: Rule>(
     requires serves { R.serves rule.now instance.now }
     requires pool { IsPoolOf instance.now pool.now.entries }
     requires branch { IsBranch instance.now branch.now }
-    requires cost { cost ≤ most_cost }
+    requires cost { cost ≤ 10 ^ 30 }
     ensures advice { let p = instance.now in IfOk result (λ a. InEachStateAt p pool.now.entries cost
         (λ s. told_by (advice_of_code a) ≡ master_advising p s branch.now)) }
     ensures weights { IfOk result (λ a. AreNodeWeights pool.now.entries a.weights.items) }

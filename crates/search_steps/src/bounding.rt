@@ -1,7 +1,6 @@
 //! The bound of a node's weights, and what it is compared with.
 
-ghost use Rattle.std.specs.Prelude.{◌≡◌, ◌≤◌, ◌↔◌, ◌<ℤ◌, length, IsTrue, if◌then◌else◌};
-ghost use Rattle.hub_spec.specs.Limits.{most_cost};
+ghost use Rattle.std.specs.Prelude.{◌≡◌, ◌≤◌, ◌^◌, ◌↔◌, ◌<ℤ◌, length, IsTrue, if◌then◌else◌};
 ghost use Rattle.hub_spec.specs.Trees.{IsBranch, HasRoom};
 ghost use Rattle.search_spec.specs.Steps.{bound_at, better, closes_at};
 ghost use Rattle.search_steps.specs.Pools.{InEachState, InEachStateAt};
@@ -46,7 +45,7 @@ pub fn closes<R: Rule>(rule: &R, weighed: &NodeWeights, branch: &Branch, cost: u
     requires weighed { AreWeighed weighed.now }
     requires branch { IsBranch weighed.now.instance.now branch.now }
     requires room { HasRoom weighed.now.instance.now.wanted branch.now }
-    requires cost { cost ≤ most_cost }
+    requires cost { cost ≤ 10 ^ 30 }
     ensures { let p = weighed.now.instance.now in InEachStateAt p weighed.now.pool.now.entries cost
         (λ s. result ≡ closes_at p s branch.now (pairs_of weighed.now.weights.now)) }
 {

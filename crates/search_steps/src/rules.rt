@@ -1,7 +1,6 @@
 //! The choices of a search that hang on the plans that are wanted.
 
-ghost use Rattle.std.specs.Prelude.{◌≡◌, ◌≤◌, [], ◌∷◌, false, None, option_map, IfOk};
-ghost use Rattle.hub_spec.specs.Limits.{most_cost};
+ghost use Rattle.std.specs.Prelude.{◌≡◌, ◌≤◌, ◌^◌, [], ◌∷◌, false, None, option_map, IfOk};
 ghost use Rattle.hub_spec.specs.Problem.{Problem, IsProblem};
 ghost use Rattle.hub_spec.specs.Plans.{IsHubSet};
 ghost use Rattle.hub_spec.specs.Trees.{IsBranch, HasRoom, preorder};
@@ -74,7 +73,7 @@ pub trait Rule {
         room: &'a mut Vec<u128>,
     ) -> Result<&'a [u128], AllocError>
         requires serves { serves self.now instance.now }
-        requires cost { cost ≤ most_cost }
+        requires cost { cost ≤ 10 ^ 30 }
         ensures problem { IsProblem instance.now }
         ensures costs { IfOk result (λ costs. costs.now ≡ advised_costs instance.now cost) };
 
@@ -101,7 +100,7 @@ pub trait Rule {
         requires weighed { AreWeighed weighed.now }
         requires branch { IsBranch weighed.now.instance.now branch.now }
         requires goes_on { GoesOn (parts_of weighed.now.instance.now) branch.now }
-        requires cost { cost ≤ most_cost }
+        requires cost { cost ≤ 10 ^ 30 }
         requires not_closed { let p = weighed.now.instance.now in InEachStateAt p weighed.now.pool.now.entries cost
             (λ s. closes_at p s branch.now (pairs_of weighed.now.weights.now) ≡ false) }
         ensures { let p = weighed.now.instance.now in

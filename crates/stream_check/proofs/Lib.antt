@@ -1,3 +1,2 @@
-mod Shown
 mod Reading
 pub mod TooLong

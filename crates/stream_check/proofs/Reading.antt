@@ -11,7 +11,7 @@ use Rattle.cert_checker.specs.declared.texts.Ending.{Ending}
 use Rattle.stream_check.specs.declared.endings.NoEnding.{NoEnding}
 use Rattle.stream_check.specs.Held.{IsVerdictOnHeld, EndsFor, EndsOver}
 use Rattle.cert_stream.proofs.Ends.{marks_shown}
-use Rattle.stream_check.proofs.Shown.{shown}
+use Rattle.cert_stream.proofs.Shown.{shown}
 use Rattle.stream_check.proofs.TooLong.{too_long_held}
 
 -- what a shelf tells of a file that it begins is told of what is left

@@ -2,7 +2,7 @@
 
 ghost use Rattle.std.specs.Prelude.{◌≡◌, ℕ, ◌++◌, ◌<◌, ◌≤◌, List, [], length, take, IfOk, IsSome};
 ghost use Rattle.std.specs.Io.KnownBytes.{Consumes, IsAtEnd};
-ghost use Rattle.hub_io.specs.Outside.{LeavesRest, Rose, TellsOf};
+ghost use Rattle.hub_io.specs.Outside.{LeavesRest, Rose, TellsOf, with_name};
 ghost use Rattle.cert_spec.specs.Verdicts.{certificate_limit};
 ghost use Rattle.cert_checker.specs.Shows.{verdict_of};
 ghost use Rattle.cert_stream.specs.Fed.{HasFed};
@@ -38,6 +38,7 @@ pub fn check_held<S: Shelf>(
     ensures sound { S.sound shelf.old → TellsOf (S.held shelf.old) name.now → result ≡ Err NoEnding.ReadFault → ⊥ }
     ensures later { S.faults shelf.old ≤ S.faults shelf.new }
     ensures same { S.held shelf.new ≡ S.held shelf.old }
+    ensures begun { S.names shelf.new ≡ with_name name.now (S.names shelf.old) }
     ensures stays_sound { S.sound shelf.old → S.sound shelf.new }
 {
     // What is known of an instance comes with its size.
@@ -57,6 +58,7 @@ fn feed_all<S: Shelf>(alloc: Global, shelf: &mut S, stream: Stream<'_>) -> Resul
     ensures sound { S.sound shelf.old → IsSome (S.left shelf.old) → result ≡ Err NoEnding.ReadFault → ⊥ }
     ensures later { S.faults shelf.old ≤ S.faults shelf.new }
     ensures same { S.held shelf.new ≡ S.held shelf.old }
+    ensures same_names { S.names shelf.new ≡ S.names shelf.old }
     ensures stays_sound { S.sound shelf.old → S.sound shelf.new }
 {
     let mut stream = stream;
@@ -93,6 +95,7 @@ fn feed_next<'a, S: Shelf>(
     ensures sound { S.sound shelf.old → IsSome (S.left shelf.old) → result ≡ Err NoEnding.ReadFault → ⊥ }
     ensures later { S.faults shelf.old ≤ S.faults shelf.new }
     ensures same { S.held shelf.new ≡ S.held shelf.old }
+    ensures same_names { S.names shelf.new ≡ S.names shelf.old }
     ensures stays_sound { S.sound shelf.old → S.sound shelf.new }
 {
     match shelf.read(piece) {

@@ -5,3 +5,4 @@ pub mod Ends
 pub mod LeastLengths
 pub mod AddedValues
 pub mod PriceRows
+pub mod OriginRows

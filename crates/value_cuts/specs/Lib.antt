@@ -5,3 +5,4 @@ pub mod HeldRows
 pub mod HeldDuals
 pub mod Lending
 pub mod Theorems
+pub mod Origins

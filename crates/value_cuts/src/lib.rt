@@ -13,9 +13,12 @@
 mod allowed;
 mod duals;
 mod laws;
+mod origins;
 mod pricing;
+mod rows;
 mod sums;
 mod values;
+mod workers;
 
 pub use duals::DualScratch;
 pub use laws::{
@@ -26,3 +29,4 @@ pub use leg_tables::CandidateLegs;
 pub use pricing::{PriceScratch, price, set_origin_prices, set_prices};
 pub use sums::{cut_sums, sums_of};
 pub use values::Values;
+pub use workers::set_prices_by_workers;

@@ -6,6 +6,7 @@ const data = JSON.parse(document.getElementById("data").textContent);
 const size = data.names.length;
 const hubs = data.hubs;
 const isHub = new Set(hubs);
+const exists = new Set(data.existing);
 const nodes = [...Array(size).keys()];
 const words = (rows) => rows.map((row) => row.split(" "));
 const flows = words(data.flows);
@@ -118,7 +119,7 @@ function sortable(columns, rows, foot = []) {
     isNumber ? decimalsOf(rows.map((row) => row.cells[column].text)) : null);
   const cell = ({ text, full = null }, column) => {
     const isNumber = columns[column][1];
-    const shownText = isNumber ? cut(text, decimals[column]) : text;
+    const shownText = isNumber && text ? cut(text, decimals[column]) : text;
     return make("td", { class: isNumber ? "number" : "", title: full }, shownText);
   };
   function fill() {
@@ -274,11 +275,12 @@ function drawLines() {
 
 // The smaller marks come later, and hubs before others only if these are much smaller, so that none is hidden.
 const HUB_FIRST = 0.35;
+const SPENT = "existing, its cost counts as 0";
 const marks = [...nodes]
   .sort((a, b) => total[b] * (isHub.has(b) ? HUB_FIRST : 1) - total[a] * (isHub.has(a) ? HUB_FIRST : 1))
   .map((node) => {
     const kind = isHub.has(node) ? "rect" : "circle";
-    const label = data.names[node] + (isHub.has(node) ? ", hub" : "");
+    const label = titleOf(node);
     const mark = drawn(kind, { "data-node": node + 1, tabindex: 0, role: "button", "aria-label": label }, layers.marks);
     mark.told = () => nodeText(node);
     mark.addEventListener("click", (event) => { event.stopPropagation(); choose(node); });
@@ -286,8 +288,14 @@ const marks = [...nodes]
     return [node, mark];
   });
 
+// A place with what it is.
+function titleOf(node) {
+  const kinds = [...(isHub.has(node) ? ["hub"] : []), ...(exists.has(node) ? [SPENT] : [])];
+  return [data.names[node], ...kinds].join(", ");
+}
+
 function nodeText(node) {
-  const text = [data.names[node] + (isHub.has(node) ? ", hub" : "")];
+  const text = [titleOf(node)];
   text.push(`flow out ${flowText(out[node])}`, `flow in ${flowText(into[node])}`);
   if (isHub.has(node)) {
     const row = data.hubRows[hubs.indexOf(node)];
@@ -301,6 +309,7 @@ function placeMarks() {
     const [x, y] = spot(node);
     const r = radius(node);
     mark.setAttribute("class", isHub.has(node) ? "node hub" : "node");
+    mark.classList.toggle("exists", exists.has(node));
     mark.classList.toggle("selected", shown.place === node);
     mark.classList.toggle("unserved", shown.origins !== null && !shown.origins.has(node));
     const shape = isHub.has(node) ? { x: x - r, y: y - r, width: 2 * r, height: 2 * r } : { cx: x, cy: y, r };
@@ -426,6 +435,11 @@ function legend(someLeftOut, mostTrunk, trunks, spokes) {
   const square = drawn("svg", { width: 16, height: 16 });
   drawn("rect", { class: "node hub", x: 2, y: 2, width: 12, height: 12 }, square);
   entries.push(make("span", {}, square, "hub"));
+  if (exists.size) {
+    const ring = drawn("svg", { width: 16, height: 16 });
+    drawn("rect", { class: "node hub exists", x: 2, y: 2, width: 12, height: 12 }, ring);
+    entries.push(make("span", {}, ring, SPENT));
+  }
   if (shown.place !== null) {
     entries.push(...["first", "middle", "last"].map((kind) => line(kind, 4, KINDS[kind])));
   } else {
@@ -461,7 +475,7 @@ function details() {
   const turn = (from, text) => make("button", { type: "button", "aria-pressed": String(shown.from === from),
     onclick: () => { shown.from = from; shown.route = null; update(); } }, text);
   box.replaceChildren(
-    heading(data.names[place], isHub.has(place) ? "hub" : ""),
+    heading(data.names[place], titleOf(place).slice(data.names[place].length + 2)),
     ...(isHub.has(place) ? loads(place) : []),
     make("p", {}, "Routes ", turn(true, "from here"), " ", turn(false, "to here"), " ",
       make("button", { type: "button", onclick: () => choose(null) }, "close")),
@@ -530,13 +544,32 @@ function parts() {
     make("span", {}, `gap ${data.gap}`));
 }
 
+// What was asked: the network without a hub, or with a place as one. Without an answer there is no number.
+const asked = (kind) => data.whatIf.filter((line) => line.kind === kind);
+const none = { text: "", by: Infinity };
+// How far it rises, in per cent where that can be told, with all digits of the rise for the pointer; and what changes.
+function risen(line = { outcome: "" }) {
+  if (line.rise === undefined) return [none, { text: line.outcome, by: line.outcome }];
+  const share = { text: line.percent || line.rise, full: "rise " + readableWhole(line.rise), by: Number(line.rise) };
+  const least = line.least === line.rise ? "" : "not proved: at least " + readable(line.least);
+  return [share, { text: [least, line.change].filter(Boolean).join("; "), by: line.change }];
+}
+
 function tables() {
+  const losses = new Map(asked("without").map((line) => [line.node, line]));
   const hubRows = data.hubRows.map((row, place) => ({
-    cells: [name(hubs[place]), number(row.fixed), number(row.collected), number(row.delivered)],
+    cells: [name(hubs[place]), number(row.fixed), number(row.collected), number(row.delivered),
+      ...(losses.size ? risen(losses.get(hubs[place])) : [])],
     click: () => choose(hubs[place]),
   }));
   const columns = [["Hub", false], ["Fixed cost", true], ["Collects", true], ["Delivers", true]];
-  at("hub-table").append(...sortable(columns, hubRows));
+  const lost = losses.size ? [["Without, %", true], ["Then", false]] : [];
+  at("hub-table").append(...sortable([...columns, ...lost], hubRows));
+  const gainRows = asked("with").map((line) => ({ cells: [name(line.node), ...risen(line)],
+    click: () => choose(line.node) }));
+  at("further").hidden = gainRows.length === 0;
+  at("further-table").append(...sortable([["Place", false], ["As a hub, %", true], ["Then", false]], gainRows));
+  at("risen").hidden = data.whatIf.length === 0;
   const trunkRows = data.trunkRows.map(([start, stop, flow, cost]) =>
     ({ cells: [name(start), name(stop), number(flow), number(cost)] }));
   at("trunk-table").append(...sortable([["From", false], ["To", false], ["Flow", true], ["Cost", true]], trunkRows));

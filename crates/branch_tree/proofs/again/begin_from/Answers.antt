@@ -1,7 +1,7 @@
 use Rattle.std.proofs.Common.{ℕ, List, ap, ◌∙◌}
 use Rattle.search_spec.specs.Again.{tried}
 use Rattle.search_core.specs.Starts.{start_seen}
-use Rattle.separators.specs.Kinds.{parts_for}
+use Rattle.search_progress.specs.Kinds.{parts_for}
 use Rattle.search_progress.specs.Progressing.{state_of}
 use Rattle.branch_tree.proofs.Beginning.{begun_is}
 use Rattle.branch_tree.proofs.again.begin_from.Goals as goal

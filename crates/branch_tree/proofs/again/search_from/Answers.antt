@@ -1,11 +1,12 @@
-use Rattle.std.proofs.Common.{subst}
+use Rattle.std.proofs.Common.{subst, arith}
 use Rattle.std.proofs.lemmas.Result.{IfOk-weaker}
 use Rattle.search_spec.specs.States.{Grown}
 use Rattle.search_core.specs.Starts.{start_seen}
 use Rattle.branch_tree.specs.Findings.{found_again}
+use Rattle.search_spec.proofs.FallingCosts.{both_to}
 use Rattle.search_progress.specs.Findings.{IsFound}
 use Rattle.search_progress.proofs.FoundCertificates.{IsSearchable, IsToldOf, told_of}
-use Rattle.branch_tree.proofs.RuleFindings.{again_searched}
+use Rattle.branch_tree.proofs.RuleFindings.{again_searched, again_at_most}
 use Rattle.branch_tree.proofs.WholeSearch.{again_from}
 use Rattle.branch_tree.proofs.again.search_from.Goals as goal
 
@@ -29,6 +30,8 @@ returns g c =
       paid = IfOk-weaker c.search_on.result _ _ (λ f t. t.paid) told;
       below = IfOk-weaker c.search_on.result _ _ (λ f t. t.below) told;
       within = IfOk-weaker c.search_on.result _ _ (λ f t. t.within) told;
+      at_most = IfOk-weaker c.search_on.result (IsFound p grown) _
+          (λ f is. both_to p start f.cost grown.state.cost (omega (arith, is.cost)) (again_at_most kind p n start all c.requires.start)) is;
       most = IfOk-weaker c.search_on.result _ _ (λ f t. t.most) told;
       allowed = IfOk-weaker c.search_on.result _ _ (λ f t. t.allowed) told;
       spent = IfOk-weaker c.search_on.result _ _ (λ f t. t.spent) told;

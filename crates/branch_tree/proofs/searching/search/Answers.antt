@@ -1,10 +1,12 @@
-use Rattle.std.proofs.Common.{subst}
+use Rattle.std.proofs.Common.{subst, arith}
 use Rattle.std.proofs.lemmas.Result.{IfOk-weaker}
 use Rattle.search_spec.specs.States.{Grown}
 use Rattle.branch_tree.specs.Findings.{found_by}
+use Rattle.search_spec.specs.Costs.{first_hubs}
+use Rattle.search_spec.proofs.FallingCosts.{least_to}
 use Rattle.search_progress.specs.Findings.{IsFound}
 use Rattle.search_progress.proofs.FoundCertificates.{IsSearchable, IsToldOf, told_of}
-use Rattle.branch_tree.proofs.RuleFindings.{rule_searched, found_remade}
+use Rattle.branch_tree.proofs.RuleFindings.{rule_searched, rule_at_most, found_remade}
 use Rattle.branch_tree.proofs.WholeSearch.{found_from}
 use Rattle.branch_tree.proofs.searching.search.Goals as goal
 
@@ -28,6 +30,8 @@ returns g c =
       paid = IfOk-weaker c.search_on.result _ _ (λ f t. t.paid) told;
       below = IfOk-weaker c.search_on.result _ _ (λ f t. t.below) told;
       within = IfOk-weaker c.search_on.result _ _ (λ f t. t.within) told;
+      at_most = IfOk-weaker c.search_on.result (IsFound p grown) _
+          (λ f is. least_to p (first_hubs p) f.cost grown.state.cost (omega (arith, is.cost)) (rule_at_most kind p n all)) is;
       most = IfOk-weaker c.search_on.result _ _ (λ f t. t.most) told;
       allowed = IfOk-weaker c.search_on.result _ _ (λ f t. t.allowed) told;
       spent = IfOk-weaker c.search_on.result _ _ (λ f t. t.spent) told;

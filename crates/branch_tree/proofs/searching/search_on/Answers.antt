@@ -4,8 +4,8 @@ use Rattle.hub_spec.proofs.ChildLists.{root_branch}
 use Rattle.hub_spec.proofs.Limits.{few_candidates}
 use Rattle.search_spec.specs.States.{Grown}
 use Rattle.search_spec.specs.Steps.{node, searched}
-use Rattle.kept_cuts.specs.Findings.{lines_of}
-use Rattle.separators.specs.Kinds.{parts_for}
+use Rattle.cut_pool.specs.Findings.{lines_of}
+use Rattle.search_progress.specs.Kinds.{parts_for}
 use Rattle.search_progress.specs.Progressing.{state_of}
 use Rattle.branch_tree.proofs.NodeCases.{handled_root}
 use Rattle.branch_tree.proofs.searching.search_on.Goals as goal

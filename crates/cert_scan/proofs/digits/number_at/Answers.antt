@@ -3,8 +3,8 @@ use Rattle.std.proofs.lemmas.List.{length-drop}
 use Rattle.cert_scan.proofs.SpelledNumbers.{spells_whole, not_padded, some_digits}
 use Rattle.cert_scan.proofs.digits.number_at.Goals as goal
 
-pub returns : goal.returns
-returns c =
+pub number_of-requires-clause-spells : goal.number_of-requires-clause-spells
+number_of-requires-clause-spells c =
     let rest = drop c.args.at c.args.bytes.now in
     let digits = c.short_digits-digits.result.0 in
     let value = c.short_digits-digits.result.1 in
@@ -13,11 +13,5 @@ returns c =
     let fits : digits ≤ length rest = omega (arith, length-drop c.args.at c.args.bytes.now) in
     let least : c.least_of.result ≤ value = omega (arith, c.if-value-least_of.false) in
     let some = some_digits rest digits value c.least_of.result spell least c.least_of.ensures.none in
-    record {
-      few = few;
-      room = omega arith;
-      spells = spells_whole rest digits value spell some (omega (arith, few)) fits
-          (not_padded rest digits value spell some fits (λ several. subst (λ x. x ≤ value) (c.least_of.ensures.several several) least));
-      line_end = c.in_ok-last.ensures.0;
-      more = c.in_ok-last.ensures.1;
-    }
+    spells_whole rest digits value spell some (omega (arith, few)) fits
+    (not_padded rest digits value spell some fits (λ several. subst (λ x. x ≤ value) (c.least_of.ensures.several several) least))

@@ -1,8 +1,7 @@
 use Rattle.std.proofs.Common.{◌∙◌, FitsSigned, rules}
 use Rattle.std.specs.Int.{w128}
 use Rattle.std.proofs.lemmas.Int.{to_z-of_z}
-use Rattle.search_core.proofs.Weightings.{branch_below}
-use Rattle.closing_search.proofs.SingleBounds.{none_numbers, none_bound_is}
+use Rattle.closing_search.proofs.SingleBounds.{none_numbers, none_within, none_bound_is}
 use Rattle.closing_search.proofs.bounds.bare_bound.Goals as goal
 
 pub bound_by_number-requires-clause-numbers : goal.bound_by_number-requires-clause-numbers
@@ -11,8 +10,8 @@ bound_by_number-requires-clause-numbers c =
 
 pub bound_by_number-requires-clause-nodes : goal.bound_by_number-requires-clause-nodes
 bound_by_number-requires-clause-nodes c =
-    branch_below c.args.instance.now c.bare_weighting.result.fixed.now c.args.branch.now c.bare_weighting.ensures.problem
-    c.bare_weighting.ensures.lent.fixed_are c.requires.branch
+    none_within c.args.instance.now c.bare_weighting.result c.args.branch.now c.bare_weighting.ensures.problem c.requires.branch
+    c.bare_weighting.ensures.lent
 
 pub returns-clause-bound : goal.returns-clause-bound
 returns-clause-bound c =

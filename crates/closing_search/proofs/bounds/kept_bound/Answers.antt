@@ -3,12 +3,11 @@ use Rattle.std.specs.Int.{w128}
 use Rattle.std.proofs.lemmas.Int.{to_z-of_z}
 use Rattle.hub_spec.specs.Problem.{Problem, IsProblem}
 use Rattle.hub_spec.specs.Trees.{cut_at}
-use Rattle.kept_cuts.specs.Kept.{KeptList, kept_cuts, kept_part, IsRemade, AreKeptFor}
-use Rattle.search_core.proofs.Weightings.{branch_below}
+use Rattle.cut_pool.specs.Kept.{KeptList, kept_cuts, kept_part, IsRemade, AreKeptFor}
 use Rattle.closing_search.specs.Progressing.{cuts_of}
 use Rattle.closing_search.specs.SingleCuts.{AreLentOf, IsOnCut}
 use Rattle.closing_search.proofs.KeptSums.{map-slice_range, kept_at_number}
-use Rattle.closing_search.proofs.SingleBounds.{cut_numbers, cut_bound_is}
+use Rattle.closing_search.proofs.SingleBounds.{cut_numbers, cut_within, cut_bound_is}
 use Rattle.closing_search.proofs.bounds.kept_bound.Goals as goal
 use Rattle.closing_search.proofs.bounds.kept_bound.Goals.{After-cut_weighting-weighting}
 
@@ -38,9 +37,8 @@ bound_by_number-requires-clause-numbers c =
 
 pub bound_by_number-requires-clause-nodes : goal.bound_by_number-requires-clause-nodes
 bound_by_number-requires-clause-nodes c =
-    branch_below c.args.task.now.instance.now c.cut_weighting-weighting.result.fixed.now c.args.branch.now c.requires.going.problem
-    (on_cut (goal.at.bound_by_number-requires-clause-nodes c).After-cut_weighting-weighting).fixed_are
-    c.requires.branch
+    cut_within c.args.task.now.instance.now _ c.cut_weighting-weighting.result c.args.branch.now c.requires.going.problem
+    c.requires.branch (on_cut (goal.at.bound_by_number-requires-clause-nodes c).After-cut_weighting-weighting)
 
 pub returns-clause-bound : goal.returns-clause-bound
 returns-clause-bound c =

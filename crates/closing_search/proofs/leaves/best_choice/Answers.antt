@@ -3,7 +3,7 @@ use Rattle.std.specs.Int.{w128}
 use Rattle.std.proofs.lemmas.Int.{to_z-of_z}
 use Rattle.std.proofs.lemmas.List.{length-map}
 use Rattle.leaf_bound.specs.Weighing.{most_bound, IsWithin}
-use Rattle.kept_cuts.specs.Kept.{kept_cut}
+use Rattle.cut_pool.specs.Kept.{kept_cut}
 use Rattle.closing_search.specs.Progressing.{cuts_of}
 use Rattle.closing_search.specs.declared.leaves.Choice.{Choice}
 use Rattle.closing_search.proofs.Choices.{first_choice, next_choice, next_within}

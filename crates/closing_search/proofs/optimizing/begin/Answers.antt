@@ -1,6 +1,7 @@
-use Rattle.std.proofs.Common.{length, ap, ◌∙◌}
-use Rattle.std.proofs.lemmas.List.{nil_from_length}
+use Rattle.std.proofs.Common.{refl, rules}
+use Rattle.closing_search.proofs.Findings.{begun_going}
 use Rattle.closing_search.proofs.optimizing.begin.Goals as goal
 
-pub returns-clause-no_line : goal.returns-clause-no_line
-returns-clause-no_line c = nil_from_length _ (c.in_ok-offer_nodes.ensures.lines ∙ ap length c.in_ok-progress.ensures.no_line)
+pub returns-clause-going : goal.returns-clause-going
+returns-clause-going c =
+    begun_going c.args.task.now _ c.first_incumbent.ensures.problem c.requires.gap (search rules) (search rules) (search rules) refl refl refl

@@ -1,8 +1,8 @@
 use Rattle.std.proofs.Common.{◌≡◌, List, refl, ap, ◌∙◌, rules}
 use Rattle.std.specs.Prelude.{ℕ}
 use Rattle.hub_spec.specs.Plans.{Plan}
-use Rattle.kept_cuts.specs.declared.found.Found.{Found}
-use Rattle.closing_search.proofs.Findings.{IsFoundOf, found_of, found_proved, found_own, found_at_most, found_within, found_below, found_most, found_allowed, found_spent, found_enough, found_whole}
+use Rattle.cut_pool.specs.declared.found.Found.{Found}
+use Rattle.closing_search.proofs.Findings.{IsFoundOf, found_of, found_proved, found_own, found_at_most, found_given, found_best, found_within, found_below, found_most, found_allowed, found_spent, found_enough, found_whole}
 use Rattle.closing_search.proofs.optimizing.finish.Goals as goal
 use Rattle.closing_search.proofs.optimizing.finish.Goals.{After-drop-progress-2}
 
@@ -34,7 +34,13 @@ pub returns-clause-routes : goal.returns-clause-routes
 returns-clause-routes c = (is_found c).routes
 
 pub returns-clause-at_most : goal.returns-clause-at_most
-returns-clause-at_most c any = found_at_most c.args.task.now c.args.progress (finding c) c.requires (is_found c) any
+returns-clause-at_most c = found_at_most c.args.task.now c.args.progress (finding c) c.requires (is_found c)
+
+pub returns-clause-given : goal.returns-clause-given
+returns-clause-given c = found_given c.args.task.now c.args.progress (finding c) c.requires (is_found c)
+
+pub returns-clause-best : goal.returns-clause-best
+returns-clause-best c = found_best c.args.task.now c.args.progress (finding c) c.requires (is_found c)
 
 pub returns-clause-within : goal.returns-clause-within
 returns-clause-within c = found_within c.args.task.now c.args.progress (finding c) c.requires (is_found c)

@@ -1,6 +1,10 @@
-use Rattle.std.proofs.Common.{ℕ, List, take, sym, ap, ◌∙◌}
-use Rattle.closing_search.proofs.BranchEnds.{some_first}
+use Rattle.std.proofs.Common.{ℕ, List, take, sym, ap, ◌∙◌, rules}
+use Rattle.closing_search.proofs.BranchEnds.{all_first, some_first}
 use Rattle.closing_search.proofs.optimizing.first_hubs.Goals as goal
+
+pub returns-in-None-clause-first : goal.returns-in-None-clause-first
+returns-in-None-clause-first c =
+    all_first c.args.instance.now _ (sym c.wanted.ensures.value ∙ c.in-None.is) (search rules) c.candidates-candidates.ensures.value
 
 pub returns-in-Some-clause-first : goal.returns-in-Some-clause-first
 returns-in-Some-clause-first c =

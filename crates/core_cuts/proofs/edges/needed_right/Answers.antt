@@ -1,5 +1,5 @@
 use Rattle.std.proofs.Common.{ℕ, ◌/◌, ◌≤◌, ap₂, sym, subst}
-use Rattle.core_runs.proofs.Found.{right_limit}
+use Rattle.core_cuts.proofs.Found.{right_limit}
 use Rattle.core_cuts.specs.Bodies.{most_unit}
 use Rattle.core_cuts.proofs.edges.needed_right.Goals as goal
 use Rattle.core_cuts.proofs.edges.needed_right.Goals.{After-flow_between}

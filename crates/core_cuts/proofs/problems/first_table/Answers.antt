@@ -1,7 +1,7 @@
 use Rattle.std.proofs.Common.{◌≡◌, ℕ, ℤ, List, ◌≤◌, length, All, IfOk, unsigned_abs, sym, subst, ap, ◌∙◌, arith}
 use Rattle.frac_rows.specs.Rows.{Table}
 use Rattle.frac_rows.specs.Starts.{start}
-use Rattle.core_runs.specs.CoreTables.{core_edges, core_table}
+use Rattle.core_cuts.specs.CoreTables.{core_edges, core_table}
 use Rattle.core_cuts.specs.Bodies.{most_unit}
 use Rattle.core_cuts.proofs.LaidRows.{laid_columns}
 use Rattle.core_cuts.proofs.ProblemLimits.{edges_few, rights_few, rights_limit}

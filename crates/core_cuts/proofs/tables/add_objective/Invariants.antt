@@ -1,5 +1,5 @@
 use Rattle.std.proofs.Common.{◌≡◌, ◌+◌, ◌*◌, ◌++◌, ◌∷◌, pos, ◌-ℤ◌, length, map, take}
-use Rattle.core_runs.specs.CoreTables.{counts}
+use Rattle.core_cuts.specs.CoreTables.{counts}
 use Rattle.core_cuts.proofs.tables.add_objective.Given as goal
 
 abbrev pub invariant-loop-node : goal.invariant-loop-node

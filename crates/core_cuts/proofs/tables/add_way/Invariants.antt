@@ -1,5 +1,5 @@
 use Rattle.std.proofs.Common.{◌≡◌, ◌++◌, ◌∷◌, pos, ◌-ℤ◌, map, take}
-use Rattle.core_runs.specs.CoreTables.{through}
+use Rattle.core_cuts.specs.CoreTables.{through}
 use Rattle.core_cuts.proofs.tables.add_way.Given as goal
 
 abbrev pub invariant-loop-node : goal.invariant-loop-node

@@ -1,5 +1,5 @@
 use Rattle.std.proofs.Common.{◌≡◌, ◌++◌, filter, take}
-use Rattle.core_runs.specs.CoreTables.{begins_at}
+use Rattle.core_cuts.specs.CoreTables.{begins_at}
 use Rattle.core_cuts.proofs.taken_ways.add_from.Given as goal
 
 abbrev pub invariant-loop-way : goal.invariant-loop-way

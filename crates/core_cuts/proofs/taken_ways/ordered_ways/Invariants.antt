@@ -1,5 +1,5 @@
 use Rattle.std.proofs.Common.{◌≡◌, flat_map, filter, take}
-use Rattle.core_runs.specs.CoreTables.{begins_at}
+use Rattle.core_cuts.specs.CoreTables.{begins_at}
 use Rattle.core_cuts.proofs.taken_ways.ordered_ways.Given as goal
 
 abbrev pub invariant-loop-k : goal.invariant-loop-k

@@ -1,6 +1,6 @@
 use Rattle.std.proofs.Common.{◌≡◌, ◌+◌, ◌++◌, filter, drop}
 use Rattle.frac_rows.specs.Rows.{objective}
-use Rattle.core_runs.specs.CoreTables.{ways_of}
+use Rattle.core_cuts.specs.CoreTables.{ways_of}
 use Rattle.core_cuts.specs.Bodies.{is_taken}
 use Rattle.core_cuts.proofs.taken_ways.taken_ways.Given as goal
 

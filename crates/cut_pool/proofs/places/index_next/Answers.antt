@@ -1,8 +1,8 @@
 use Rattle.std.proofs.Common.{◌≡◌, ◌++◌, ◌∷◌, [], ℕ, List, Option, Some, length, map, cond, sym, ap, subst, ◌∙◌, arith}
 use Rattle.std.specs.List.{insert}
 use Rattle.std.proofs.lemmas.List.{length-map}
-use Rattle.kept_cuts.specs.Kept.{kept_of, kept_set}
-use Rattle.cut_pool.specs.Kept.{sets_of}
+use Rattle.cut_pool.specs.Kept.{kept_of, kept_set}
+use Rattle.cut_pool.specs.PoolCuts.{sets_of}
 use Rattle.cut_pool.specs.Ordered.{IsIndex, IsSplitAt}
 use Rattle.cut_pool.proofs.Indexes.{index_more, index_unset}
 use Rattle.cut_pool.proofs.places.index_next.Goals as goal

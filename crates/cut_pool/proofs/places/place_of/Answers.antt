@@ -2,8 +2,8 @@ use Rattle.std.proofs.Common.{◌≡◌, ◌+◌, ◌-◌, ◌/◌, ◌<◌, len
 use Rattle.std.specs.Ordering.{nat_cmp, is_lt}
 use Rattle.std.specs.Cmp.Lexicographic.{slice_cmp}
 use Rattle.std.proofs.lemmas.List.{get_or_default}
-use Rattle.kept_cuts.specs.Kept.{kept_of}
-use Rattle.cut_pool.specs.Kept.{sets_of}
+use Rattle.cut_pool.specs.Kept.{kept_of}
+use Rattle.cut_pool.specs.PoolCuts.{sets_of}
 use Rattle.cut_pool.specs.Ordered.{set_at}
 use Rattle.cut_pool.proofs.IndexedCuts.{of_set_indexed, set_indexed}
 use Rattle.cut_pool.proofs.Indexes.{search_above, search_below, tested}

@@ -1,6 +1,6 @@
 use Rattle.std.proofs.Common.{◌-◌, map}
-use Rattle.kept_cuts.specs.Kept.{kept_of}
-use Rattle.cut_pool.specs.Kept.{sets_of}
+use Rattle.cut_pool.specs.Kept.{kept_of}
+use Rattle.cut_pool.specs.PoolCuts.{sets_of}
 use Rattle.cut_pool.proofs.Indexes.{IsSearch}
 use Rattle.cut_pool.proofs.places.place_of.Given as goal
 

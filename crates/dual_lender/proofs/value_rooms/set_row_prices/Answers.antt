@@ -3,7 +3,7 @@ use Rattle.hub_spec.specs.Problem.{Problem}
 use Rattle.value_cuts.specs.Values.{row_for, node_value, allowed_price}
 use Rattle.value_cuts.specs.Prices.{row_price}
 use Rattle.value_cuts.proofs.PriceRows.{price_more_from}
-use Rattle.kept_cuts.specs.Packed.{row_of}
+use Rattle.cut_pool.specs.Packed.{row_of}
 use Rattle.dual_lender.proofs.value_rooms.set_row_prices.Goals as goal
 
 pub loop-j-preserved : goal.loop-j-preserved

@@ -9,6 +9,7 @@ invariant-loop-buffer g l = (let s = g.S.Shelf in
     × Consumes (s.left l.initial.shelf) (s.left l.shelf) l.bytes.items
     × (s.faults l.initial.shelf ≤ s.faults l.shelf)
     × (s.held l.shelf ≡ s.held l.initial.shelf)
+    × (s.names l.shelf ≡ s.names l.initial.shelf)
     × (s.sound l.initial.shelf → s.sound l.shelf))
 
 abbrev pub decreases-loop-buffer : goal.decreases-loop-buffer

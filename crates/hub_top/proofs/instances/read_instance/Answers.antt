@@ -1,4 +1,4 @@
-use Rattle.std.proofs.Common.{List, ℕ, Option, sym, subst, length, ◌≤◌}
+use Rattle.std.proofs.Common.{List, ℕ, Option, sym, subst, length, ◌≤◌, inl, inr}
 use Rattle.std.proofs.lemmas.Result.{err_from_is_err_and, IfOk-weaker, IfErr-weaker}
 use Rattle.hub_io.specs.Outside.{Files, Holds}
 use Rattle.hub_spec.specs.Problem.{Problem}
@@ -13,6 +13,7 @@ use Rattle.hub_top.specs.Building.{IsBuilt, KeepsLimits}
 use Rattle.hub_top.specs.Halts.{Halts, IsOfCosts, IsOfWhole, IsOfSource, LacksCosts}
 use Rattle.hub_top.proofs.Sources.{one_source}
 use Rattle.hub_top.proofs.Halting.{read_halts, token_halts, costs_halts, halts_after, whole_halts, has_read, built_instance, built_limits}
+use Rattle.hub_io.proofs.Names.{begins_then, begins_more}
 use Rattle.hub_top.proofs.instances.read_instance.Goals as goal
 
 pub returns-in_err-bytes-clause-halted : goal.returns-in_err-bytes-clause-halted
@@ -83,3 +84,19 @@ returns-clause-halted g c =
     c.in_ok-costs.ensures.held in
     IfErr-weaker c.build.result (λ (h : Halt). Halts (IsOfWhole s.options contents costs) ⊥ h) (λ (h : Halt). Halts (IsOfSource held s) unread h)
     (λ h k. whole_halts held s unread _ contents costs h read given k) c.build.ensures.halted
+
+-- ---- the files that are begun
+
+pub returns-in_err-bytes-clause-begins : goal.returns-in_err-bytes-clause-begins
+returns-in_err-bytes-clause-begins g c = begins_more (λ name is. inl is) c.in_err-bytes.ensures.begins
+
+pub returns-in_err-parts-clause-begins : goal.returns-in_err-parts-clause-begins
+returns-in_err-parts-clause-begins g c = begins_more (λ name is. inl is) c.in_ok-bytes.ensures.begins
+
+pub returns-in_err-costs-clause-begins : goal.returns-in_err-costs-clause-begins
+returns-in_err-costs-clause-begins g c =
+    begins_then (begins_more (λ name is. inl is) c.in_ok-bytes.ensures.begins) (begins_more (λ name is. inr is) c.in_err-costs.ensures.begins)
+
+pub returns-clause-begins : goal.returns-clause-begins
+returns-clause-begins g c =
+    begins_then (begins_more (λ name is. inl is) c.in_ok-bytes.ensures.begins) (begins_more (λ name is. inr is) c.in_ok-costs.ensures.begins)

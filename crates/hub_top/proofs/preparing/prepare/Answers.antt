@@ -1,4 +1,4 @@
-use Rattle.std.proofs.Common.{None, Some, inl, refl}
+use Rattle.std.proofs.Common.{None, Some, refl}
 use Rattle.hub_words.specs.Views.{how_seen}
 use Rattle.search_core.specs.Starts.{start_seen}
 use Rattle.hub_top.proofs.OlderCertificates.{begun_again, may_begin}
@@ -11,7 +11,7 @@ returns-in-Serves-clause-prepared g c =
     (start_seen c.start_of.result) (rw c.in-Again.is refl) read.older_held (rw c.in-Serves.is at read.reads) c.start_of.ensures.start (c.start_of.ensures.is_start c.args.instance.now)
 
 pub returns-in_default-clause-prepared : goal.returns-in_default-clause-prepared
-returns-in_default-clause-prepared g c = (None, rw (c.in-Freely.is, c.in_default.is) refl, inl (rw (c.in-Freely.is, c.in_default.is) refl))
+returns-in_default-clause-prepared g c = (None, rw (c.in-Freely.is, c.in_default.is) refl, rw (c.in-Freely.is, c.in_default.is) refl)
 
 pub returns-in-Serves-2-clause-prepared : goal.returns-in-Serves-2-clause-prepared
 returns-in-Serves-2-clause-prepared g c =

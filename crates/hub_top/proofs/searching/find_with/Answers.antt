@@ -1,5 +1,5 @@
 use Rattle.std.proofs.Common.{subst}
-use Rattle.separators.specs.Kinds.{CutKind}
+use Rattle.search_progress.specs.Kinds.{CutKind}
 use Rattle.search_core.specs.Starts.{start_seen}
 use Rattle.branch_tree.specs.Findings.{found_by, found_again}
 use Rattle.hub_words.specs.Requests.{node_by_node, by_core_cuts, by_rounds}

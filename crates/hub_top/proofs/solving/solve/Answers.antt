@@ -1,16 +1,17 @@
-use Rattle.std.proofs.Common.{ℕ, Option, Some, None, refl, sym, subst}
+use Rattle.std.proofs.Common.{ℕ, Option, Some, None, subst, inl, inr}
 use Rattle.std.proofs.lemmas.Result.{err_from_is_err_and}
 use Rattle.hub_io.specs.Outside.{Files}
 use Rattle.hub_spec.specs.Problem.{IsProblem}
-use Rattle.hub_words.specs.Views.{how_seen, search_seen, solving_of}
+use Rattle.hub_words.specs.Views.{solving_of}
 use Rattle.hub_top.specs.Commands.{LacksOlder}
 use Rattle.hub_top.specs.Solving.{IsPrepared, course_seen}
 use Rattle.hub_top.specs.declared.preparing.Prepared.{Prepared}
-use Rattle.hub_top.specs.declared.preparing.Prepared.TheVariants.{Ruled, Free}
 use Rattle.hub_top.proofs.Halting.{source_halts}
 use Rattle.hub_top.proofs.Networks.{told_of_all, network_when, no_plan_when}
+use Rattle.hub_top.proofs.OlderCertificates.{begun_at}
 use Rattle.hub_top.proofs.Searched.{may_go_by}
 use Rattle.hub_top.proofs.Solutions.{ruled_found, free_found, free_gap}
+use Rattle.hub_io.proofs.Names.{begins_then, begins_more}
 use Rattle.hub_top.proofs.solving.solve.Goals as goal
 
 pub returns-in_err-instance-clause-halted : goal.returns-in_err-instance-clause-halted
@@ -84,5 +85,45 @@ returns-in_ok-found-in-Free-clause-solved g c =
     record {
       instance = c.in_ok-instance.ensures.given;
       limits = c.in_ok-instance.ensures.limits;
-      found_by = free_found held p s.how s.search c.in-Free.gap free.0 c.in_ok-found-in-Free.found free.1 free.2 c.in_ok-found-in-Free.ensures.closed;
+      found_by = free_found held p s.how s.search c.in-Free.gap free.0 c.in_ok-found-in-Free.found free.1
+          (begun_at held p s.how c.in-Free.older c.in_ok-found-in-Free.found.cost free.2
+          c.in_ok-found-in-Free.ensures.given) c.in_ok-found-in-Free.ensures.closed;
     }
+
+-- ---- the files that are begun
+
+pub returns-in_err-instance-clause-begins : goal.returns-in_err-instance-clause-begins
+returns-in_err-instance-clause-begins g c =
+    begins_more (λ name is. inl is) c.in_err-instance.ensures.begins
+
+pub returns-in_err-all_candidates-clause-begins : goal.returns-in_err-all_candidates-clause-begins
+returns-in_err-all_candidates-clause-begins g c =
+    begins_more (λ name is. inl is) c.in_ok-instance.ensures.begins
+
+pub returns-in-Some-clause-begins : goal.returns-in-Some-clause-begins
+returns-in-Some-clause-begins g c =
+    begins_more (λ name is. inl is) c.in_ok-instance.ensures.begins
+
+pub returns-in_err-course-clause-begins : goal.returns-in_err-course-clause-begins
+returns-in_err-course-clause-begins g c =
+    begins_then (begins_more (λ name is. inl is) c.in_ok-instance.ensures.begins) (begins_more (λ name is. inr is) c.in_err-course.ensures.begins)
+
+pub returns-in_err-found-in-Ruled-clause-begins : goal.returns-in_err-found-in-Ruled-clause-begins
+returns-in_err-found-in-Ruled-clause-begins g c =
+    begins_then (begins_more (λ name is. inl is) c.in_ok-instance.ensures.begins) (begins_more (λ name is. inr is) c.in_ok-course.ensures.begins)
+
+pub returns-in_ok-found-in-Ruled-clause-begins : goal.returns-in_ok-found-in-Ruled-clause-begins
+returns-in_ok-found-in-Ruled-clause-begins g c =
+    begins_then (begins_more (λ name is. inl is) c.in_ok-instance.ensures.begins) (begins_more (λ name is. inr is) c.in_ok-course.ensures.begins)
+
+pub returns-in_err-found-in-Free-clause-begins : goal.returns-in_err-found-in-Free-clause-begins
+returns-in_err-found-in-Free-clause-begins g c =
+    begins_then (begins_more (λ name is. inl is) c.in_ok-instance.ensures.begins) (begins_more (λ name is. inr is) c.in_ok-course.ensures.begins)
+
+pub returns-in_ok-found-in-Free-clause-begins : goal.returns-in_ok-found-in-Free-clause-begins
+returns-in_ok-found-in-Free-clause-begins g c =
+    begins_then (begins_more (λ name is. inl is) c.in_ok-instance.ensures.begins) (begins_more (λ name is. inr is) c.in_ok-course.ensures.begins)
+
+pub returns-in-Refused-clause-begins : goal.returns-in-Refused-clause-begins
+returns-in-Refused-clause-begins g c =
+    begins_then (begins_more (λ name is. inl is) c.in_ok-instance.ensures.begins) (begins_more (λ name is. inr is) c.in_ok-course.ensures.begins)

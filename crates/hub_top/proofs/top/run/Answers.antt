@@ -13,5 +13,6 @@ returns g c =
       complete = told.complete;
       headline = told.headline;
       same = c.settle-settled.ensures.same;
+      begins = c.settle-settled.ensures.begins;
       untouched = c.settle-settled.ensures.untouched;
     }

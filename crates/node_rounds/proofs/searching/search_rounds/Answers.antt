@@ -1,13 +1,15 @@
-use Rattle.std.proofs.Common.{refl, subst}
+use Rattle.std.proofs.Common.{refl, subst, arith}
 use Rattle.std.proofs.lemmas.Result.{IfOk-weaker}
 use Rattle.search_spec.specs.States.{Grown}
 use Rattle.search_steps.specs.Advising.{parts_of}
+use Rattle.search_spec.specs.Costs.{first_hubs}
+use Rattle.search_spec.proofs.FallingCosts.{least_to}
 use Rattle.search_progress.specs.Findings.{IsFound}
 use Rattle.search_progress.proofs.FoundCertificates.{IsSearchable, IsToldOf, told_of}
 use Rattle.rounds_spec.specs.Lasting.{searched_by_rounds}
 use Rattle.node_rounds.specs.Findings.{found_by_rounds}
 use Rattle.node_rounds.specs.Searchers.{first_state}
-use Rattle.node_rounds.proofs.RoundFindings.{rounds_searched, rounds_remade, found_from}
+use Rattle.node_rounds.proofs.RoundFindings.{rounds_searched, rounds_at_most, rounds_remade, found_from}
 use Rattle.node_rounds.proofs.searching.search_rounds.Goals as goal
 
 pub returns : goal.returns
@@ -31,6 +33,8 @@ returns g c =
       paid = IfOk-weaker c.finish.result _ _ (λ f t. t.paid) told;
       below = IfOk-weaker c.finish.result _ _ (λ f t. t.below) told;
       within = IfOk-weaker c.finish.result _ _ (λ f t. t.within) told;
+      at_most = IfOk-weaker c.finish.result (IsFound p grown) _
+          (λ f is. least_to p (first_hubs p) f.cost grown.state.cost (omega (arith, is.cost)) (rounds_at_most p n all)) is;
       most = IfOk-weaker c.finish.result _ _ (λ f t. t.most) told;
       allowed = IfOk-weaker c.finish.result _ _ (λ f t. t.allowed) told;
       spent = IfOk-weaker c.finish.result _ _ (λ f t. t.spent) told;

@@ -5,7 +5,7 @@ use Rattle.hub_spec.specs.Plans.{IsHubSet}
 use Rattle.cut_pool.specs.Entries.{Sums, Lacks}
 use Rattle.search_spec.specs.Steps.{separated}
 use Rattle.search_steps.specs.Advising.{parts_of}
-use Rattle.separators.specs.Kinds.{CutKind, minimal, parts_for}
+use Rattle.search_progress.specs.Kinds.{CutKind, minimal, parts_for}
 use Rattle.search_progress.specs.Progressing.{state_of, IsAt}
 use Rattle.rounds_spec.proofs.StepCases.{with_known, with_new}
 use Rattle.node_rounds.specs.Outcomes.{AreSumsOver}

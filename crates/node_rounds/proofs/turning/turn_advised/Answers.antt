@@ -37,9 +37,6 @@ returns-then-closes-clause-turn c = λ hubs made stop.
     (c.in_ok-leaf_line.ensures ∙ ap (λ (ws : List ℕ). leaf_of denominator (pairs_of ws)) c.deref-then-closes.ensures.value)
     ∙ advised_leaf p s (pending_of node) a best taken (sym closes ∙ c.if-closes.true)
 
-pub order_of-requires-clause-set : goal.order_of-requires-clause-set
-order_of-requires-clause-set c = c.in_ok-set.ensures.set c.requires.problem
-
 pub returns-then-may_ask-clause-turn : goal.returns-then-may_ask-clause-turn
 returns-then-may_ask-clause-turn c = λ hubs made stop.
     let p = c.args.instance.now in

@@ -5,7 +5,7 @@ use Rattle.hub_spec.specs.Limits.{most_nodes}
 use Rattle.hub_spec.specs.Sums.{sum_ints}
 use Rattle.hub_spec.proofs.SortedSums.{front_sum}
 use Rattle.leaf_bound.specs.Weighing.{most_gain, IsWithin}
-use Rattle.leaf_bound.proofs.LentNumbers.{few_listed, base_within, within_fits, parts_within, parts_passed, parts_fit}
+use Rattle.leaf_bound.proofs.LentNumbers.{few_listed, gain_nodes, base_within, within_fits, parts_within, parts_passed, parts_fit}
 use Rattle.p_hub.specs.Counted.{gain_in}
 use Rattle.p_hub.proofs.RisingGains.{IsFrontSum, front_next, front_within, values_long, value_within}
 use Rattle.p_hub.proofs.CountedBounds.{front_is_least}
@@ -15,12 +15,12 @@ use Rattle.p_hub.proofs.bounds.bound_by_rising.Goals.{After-inside-inside}
 pub sum_of_gains-requires-clause-few : goal.sum_of_gains-requires-clause-few
 sum_of_gains-requires-clause-few c =
     few_listed c.inside-inside.result.now c.args.branch.now.inside (length c.args.gains.now) c.inside-inside.ensures.value
-    c.inside-inside.ensures.split.inside_ascends c.requires.nodes.inside c.requires.few
+    c.inside-inside.ensures.split.inside_ascends (gain_nodes c.args.gains.now c.args.branch.now.inside c.requires.gains.inside) c.requires.few
 
 few_free : (c : After-inside-inside) → length c.args.branch.now.free ≤ most_nodes
 few_free c =
     few_listed c.args.branch.now.free c.args.branch.now.free (length c.args.gains.now) refl c.inside-inside.ensures.split.free_ascends
-    c.requires.nodes.free c.requires.few
+    (gain_nodes c.args.gains.now c.args.branch.now.free c.requires.gains.free) c.requires.few
 
 pub bounds-rising-i : goal.bounds-rising-i
 bounds-rising-i c =
@@ -44,7 +44,7 @@ sum c = to_z w128 c.loop-i.missing-bits +ℤ here c
 
 within : (c : goal.After-missing-1) → IsWithin most_gain (here c)
 within c =
-    value_within c.args.gains.now c.args.branch.now.free c.args.rising.now c.loop-i.i c.requires.rising c.requires.gains c.requires.nodes.free (low c)
+    value_within c.args.gains.now c.args.branch.now.free c.args.rising.now c.loop-i.i c.requires.rising c.requires.gains.free (low c)
 
 next : (c : goal.After-missing-1) → IsFrontSum c.args.rising.now (c.loop-i.i + 1) (sum c)
 next c =

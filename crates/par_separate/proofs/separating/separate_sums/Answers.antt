@@ -2,7 +2,7 @@ use Rattle.std.proofs.Common.{◌≡◌, ℕ, ap, sym, subst, ◌∙◌, arith}
 use Rattle.std.specs.List.{AllZip, range_with_len}
 use Rattle.hub_spec.specs.Cuts.{Cut, total, load}
 use Rattle.pareto_cuts.specs.Separations.{SetSeparation}
-use Rattle.separators.proofs.WholeCuts.{are_sums}
+use Rattle.search_progress.proofs.WholeCuts.{are_sums}
 use Rattle.par_separate.specs.Origins.{AreSumsFrom}
 use Rattle.par_separate.proofs.AddedOrigins.{separation_cut}
 use Rattle.par_separate.proofs.separating.separate_sums.Goals as goal

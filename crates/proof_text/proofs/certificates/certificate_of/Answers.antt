@@ -18,7 +18,7 @@ parts c =
 
 pub new-requires : goal.new-requires
 new-requires c =
-    certificate_parts (version_number c.args.version) c.args.instance.now c.args.found.now _ _ _ _ _ c.requires.version c.requires.proved (parts c)
+    certificate_parts (version_number c.args.version) c.args.instance.now c.args.found.now _ _ _ _ _ c.requires.version c.requires.found (parts c)
 
 pub returns : goal.returns
 returns c =

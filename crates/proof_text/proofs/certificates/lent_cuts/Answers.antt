@@ -1,6 +1,6 @@
 use Rattle.std.proofs.Common.{[], sym, subst, ◌∙◌, arith}
 use Rattle.std.proofs.lemmas.List.Elements.{All-get_or}
-use Rattle.kept_cuts.specs.Kept.{by_set, kept_of, kept_cut, IsKeptFor}
+use Rattle.cut_pool.specs.Kept.{by_set, kept_of, kept_cut, IsKeptFor}
 use Rattle.proof_text.proofs.FoundLines.{same_place}
 use Rattle.proof_text.proofs.CutRows.{next_made}
 use Rattle.proof_text.proofs.certificates.lent_cuts.Goals as goal

@@ -1,5 +1,5 @@
 use Rattle.std.proofs.Common.{◌≡◌, take}
-use Rattle.kept_cuts.specs.Kept.{kept_cuts}
+use Rattle.cut_pool.specs.Kept.{kept_cuts}
 use Rattle.dual_lender.specs.Lenders.{IsLenderFor}
 use Rattle.proof_text.proofs.certificates.lent_cuts.Given as goal
 

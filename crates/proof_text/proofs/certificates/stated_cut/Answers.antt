@@ -5,7 +5,7 @@ use Rattle.hub_spec.specs.Cuts.{Prices, Cut}
 use Rattle.hub_spec.specs.Limits.{most_nodes}
 use Rattle.hub_spec.specs.Ranges.{IsDualInRange}
 use Rattle.hub_spec.proofs.Commodities.{next_route, length_commodities}
-use Rattle.kept_cuts.specs.Kept.{kept_of}
+use Rattle.cut_pool.specs.Kept.{kept_of}
 use Rattle.dual_lender.specs.Lenders.{kept_dual}
 use Rattle.dual_lender.proofs.Lending.{kept_cut_is, still_ready, dual_in_range, few_nodes}
 use Rattle.proof_text.proofs.CutRows.{IsDualOf, AreDualsOf, duals_are}

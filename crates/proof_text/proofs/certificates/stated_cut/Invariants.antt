@@ -1,6 +1,6 @@
 use Rattle.std.proofs.Common.{◌≡◌, ◌+◌, ◌*◌, take}
 use Rattle.hub_spec.specs.Problem.{commodities}
-use Rattle.kept_cuts.specs.Kept.{kept_of, kept_part}
+use Rattle.cut_pool.specs.Kept.{kept_of, kept_part}
 use Rattle.dual_lender.specs.Lenders.{kept_dual, IsReady, HasDuals}
 use Rattle.proof_text.proofs.CutRows.{AreDualsOf}
 use Rattle.proof_text.proofs.certificates.stated_cut.Given as goal

@@ -3,7 +3,7 @@ use Rattle.hub_model.specs.Amounts.{natural}
 use Rattle.cert_format.proofs.Amounts.{same_amount}
 use Rattle.cert_format.proofs.Written.{values_natural}
 use Rattle.cert_format.proofs.Following.{front_more, front_stop, front_end}
-use Rattle.kept_cuts.specs.Kept.{kept_of}
+use Rattle.cut_pool.specs.Kept.{kept_of}
 use Rattle.dual_lender.specs.Lenders.{kept_dual, made_dual}
 use Rattle.proof_text.proofs.RowLines.{text_from, each_text, each_end}
 use Rattle.proof_text.proofs.dual_lines.put_each.Goals as goal

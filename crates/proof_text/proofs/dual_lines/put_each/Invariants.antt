@@ -2,7 +2,7 @@ use Rattle.std.proofs.Common.{flat_map}
 use Rattle.cert_spec.specs.Text.{line_bytes}
 use Rattle.cert_format.proofs.Following.{HasPutFront}
 use Rattle.cert_format.specs.DualItems.{dual_items_from}
-use Rattle.kept_cuts.specs.Kept.{kept_of}
+use Rattle.cut_pool.specs.Kept.{kept_of}
 use Rattle.dual_lender.specs.Lenders.{kept_dual, HasDuals}
 use Rattle.proof_text.proofs.RowLines.{text_from}
 use Rattle.proof_text.proofs.dual_lines.put_each.Given as goal

@@ -5,7 +5,7 @@ use Rattle.cert_spec.specs.Text.{line_bytes}
 use Rattle.cert_scan.specs.Versions.{version_number}
 use Rattle.cert_format.proofs.Following.{as_text, list_more, list_stop, list_end}
 use Rattle.cert_format.proofs.Joined.{texts_joined}
-use Rattle.kept_cuts.specs.Kept.{kept_of}
+use Rattle.cut_pool.specs.Kept.{kept_of}
 use Rattle.proof_text.specs.Certificates.{mark_said}
 use Rattle.proof_text.specs.Texts.{duals_with}
 use Rattle.proof_text.proofs.Ranges.{at_number}

@@ -3,7 +3,7 @@ use Rattle.std.specs.List.{range_with_len}
 use Rattle.cert_scan.specs.Versions.{version_number}
 use Rattle.cert_spec.specs.Text.{line_bytes}
 use Rattle.cert_format.proofs.Following.{HasPut}
-use Rattle.kept_cuts.specs.Kept.{kept_of}
+use Rattle.cut_pool.specs.Kept.{kept_of}
 use Rattle.dual_lender.specs.Lenders.{IsReady}
 use Rattle.proof_text.specs.Certificates.{mark_said}
 use Rattle.proof_text.specs.Texts.{duals_with}

@@ -3,7 +3,7 @@ use Rattle.std.proofs.lemmas.Bool.{false≢true}
 use Rattle.hub_spec.specs.Problem.{Problem}
 use Rattle.hub_spec.specs.Cuts.{Prices}
 use Rattle.cert_format.proofs.Following.{as_text, front_start, front_more, front_stop}
-use Rattle.kept_cuts.specs.Kept.{kept_of}
+use Rattle.cut_pool.specs.Kept.{kept_of}
 use Rattle.dual_lender.specs.Lenders.{kept_dual, made_dual, LenderState}
 use Rattle.dual_lender.proofs.Lending.{still_has, few_values}
 use Rattle.proof_text.proofs.RowLines.{text_from, IsRunOf, run_begins, run_grows, run_ended, run_last}

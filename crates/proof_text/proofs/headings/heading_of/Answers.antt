@@ -1,10 +1,9 @@
 use Rattle.std.proofs.Common.{◌≤◌, length, refl, ap, arith, rules}
-use Rattle.proof_text.proofs.FoundLines.{found_in_range}
 use Rattle.proof_text.proofs.headings.heading_of.Goals as goal
 
 pub overflow_cast-result : goal.overflow_cast-result
 overflow_cast-result c =
-    let range = found_in_range c.args.instance.now c.args.found.now c.requires in
+    let range = c.requires.in_range in
     let same = ap length c.candidates.ensures.value in
     let few : length c.candidates.result.now ≤ 200 = omega (arith, same, range.candidates, range.size) in
     search (rules, arith)

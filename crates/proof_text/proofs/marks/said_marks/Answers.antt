@@ -1,6 +1,6 @@
 use Rattle.std.proofs.Common.{◌∙◌, arith}
 use Rattle.cert_scan.specs.Versions.{version_number}
-use Rattle.kept_cuts.specs.Kept.{kept_of}
+use Rattle.cut_pool.specs.Kept.{kept_of}
 use Rattle.proof_text.specs.Certificates.{mark_said}
 use Rattle.proof_text.proofs.CutRows.{next_made}
 use Rattle.proof_text.proofs.marks.said_marks.Goals as goal

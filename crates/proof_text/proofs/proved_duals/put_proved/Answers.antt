@@ -3,7 +3,7 @@ use Rattle.std.specs.List.{range_with_len}
 use Rattle.std.proofs.lemmas.List.FromFn.{length-range_with_len}
 use Rattle.cert_format.proofs.Following.{as_text, list_more, list_stop, list_end}
 use Rattle.cert_format.proofs.Joined.{texts_joined}
-use Rattle.kept_cuts.specs.Kept.{kept_of}
+use Rattle.cut_pool.specs.Kept.{kept_of}
 use Rattle.dual_lender.specs.Lenders.{kept_dual, made_dual}
 use Rattle.proof_text.specs.Texts.{proved_pair}
 use Rattle.proof_text.proofs.ProvedLines.{pair_is}

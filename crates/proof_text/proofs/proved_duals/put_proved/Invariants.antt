@@ -2,7 +2,7 @@ use Rattle.std.proofs.Common.{flat_map}
 use Rattle.std.specs.List.{range_with_len}
 use Rattle.cert_spec.specs.Text.{line_bytes}
 use Rattle.cert_format.proofs.Following.{HasPut}
-use Rattle.kept_cuts.specs.Kept.{kept_of}
+use Rattle.cut_pool.specs.Kept.{kept_of}
 use Rattle.dual_lender.specs.Lenders.{kept_dual, HasDuals}
 use Rattle.proof_text.specs.Texts.{proved_pair}
 use Rattle.proof_text.proofs.proved_duals.put_proved.Given as goal

@@ -5,7 +5,7 @@ use Rattle.hub_model.specs.Amounts.{natural}
 use Rattle.cert_format.proofs.Amounts.{same_amount}
 use Rattle.cert_format.proofs.Written.{values_natural}
 use Rattle.cert_format.proofs.Following.{as_text, then_put, then_none}
-use Rattle.kept_cuts.specs.Kept.{kept_of}
+use Rattle.cut_pool.specs.Kept.{kept_of}
 use Rattle.dual_lender.specs.Lenders.{made_dual}
 use Rattle.proof_text.proofs.ProvedLines.{pair_text}
 use Rattle.proof_text.proofs.proved_duals.put_proved_dual.Goals as goal

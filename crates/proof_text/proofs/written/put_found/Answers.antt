@@ -6,7 +6,7 @@ use Rattle.proof_text.proofs.PlaceCuts.{cuts_found}
 use Rattle.proof_text.proofs.written.put_found.Goals as goal
 
 pub put_cuts-requires-clause-lines : goal.put_cuts-requires-clause-lines
-put_cuts-requires-clause-lines g c κs within = cuts_found _ c.args.finding.now.found.now c.requires.proved (λ _. c.args.finding.now.found.now.cuts)
+put_cuts-requires-clause-lines g c κs within = cuts_found _ c.args.finding.now.found.now c.requires.found (λ _. c.args.finding.now.found.now.cuts)
 
 pub returns-in_err-put_found_top-clause-lines : goal.returns-in_err-put_found_top-clause-lines
 returns-in_err-put_found_top-clause-lines g c =

@@ -1,7 +1,7 @@
 use Rattle.std.proofs.Common.{ap, is_ok, is_err}
 use Rattle.cert_scan.specs.Versions.{version_number}
 use Rattle.cert_format.proofs.Following.{as_text, then_put, then_none}
-use Rattle.kept_cuts.specs.Kept.{kept_of}
+use Rattle.cut_pool.specs.Kept.{kept_of}
 use Rattle.proof_text.proofs.FoundLines.{kept_cut_text}
 use Rattle.proof_text.proofs.written.put_kept_cut.Goals as goal
 

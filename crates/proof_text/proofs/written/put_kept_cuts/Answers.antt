@@ -4,7 +4,7 @@ use Rattle.hub_spec.specs.Cuts.{cut_by}
 use Rattle.cert_spec.specs.Text.{cut_items}
 use Rattle.cert_scan.specs.Versions.{version_number}
 use Rattle.cert_format.proofs.Following.{as_text, list_more, list_stop, list_end}
-use Rattle.kept_cuts.specs.Kept.{by_set, kept_of, IsKeptFor}
+use Rattle.cut_pool.specs.Kept.{by_set, kept_of, IsKeptFor}
 use Rattle.cert_format.proofs.Joined.{texts_joined}
 use Rattle.proof_text.proofs.FoundLines.{numbered, length_numbered, same_place, kept_cut_at}
 use Rattle.proof_text.proofs.written.put_kept_cuts.Goals as goal

@@ -1,6 +1,6 @@
 use Rattle.std.proofs.Common.{◌<◌, length, refl, ◌∙◌, arith}
 use Rattle.hub_spec.specs.Limits.{most_cuts}
-use Rattle.separators.specs.Entered.{entry_with, hubs_in}
+use Rattle.search_progress.specs.Entered.{entry_with, hubs_in}
 use Rattle.search_progress.proofs.AddedCuts.{cut_added, cheaper_at, dearer_at}
 use Rattle.search_progress.proofs.separating.keep.Goals as goal
 

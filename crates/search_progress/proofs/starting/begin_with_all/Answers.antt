@@ -1,6 +1,6 @@
 use Rattle.std.proofs.Common.{List, [], ◌≢◌, Some, refl, sym, subst, ◌∙◌}
 use Rattle.std.proofs.lemmas.List.Elements.{All-nil}
-use Rattle.kept_cuts.specs.Kept.{kept_set}
+use Rattle.cut_pool.specs.Kept.{kept_set}
 use Rattle.cut_pool.specs.Entries.{Entry, Lacks}
 use Rattle.search_progress.specs.Separating.{HasCut}
 use Rattle.search_progress.proofs.Starts.{all_order, all_candidates, first_state, first_going}

@@ -12,6 +12,7 @@ loop-room-init g c = (
   refl,
   omega arith,
   refl,
+  refl,
   λ sound. sound,
   λ some. some,
 )
@@ -34,8 +35,9 @@ loop-room-preserved g c =
       e.instance ∙ inv.1,
       omega (arith, inv.2, e.later),
       e.same ∙ inv.3,
-      λ sound. e.stays_sound (inv.4 sound),
-      λ some. told_on (s.left c.loop-room.shelf) (s.left c.feed_next.new.shelf) (take count piece) e.read (inv.5 some),
+      e.same_names ∙ inv.4,
+      λ sound. e.stays_sound (inv.5 sound),
+      λ some. told_on (s.left c.loop-room.shelf) (s.left c.feed_next.new.shelf) (take count piece) e.read (inv.6 some),
     )
 
 pub finish-requires : goal.finish-requires
@@ -46,13 +48,13 @@ finish-requires g c = (
 
 pub returns-in_err-next-clause-sound : goal.returns-in_err-next-clause-sound
 returns-in_err-next-clause-sound g c = λ sound some same.
-    c.in_err-next.ensures.sound (c.loop-room.invariant.4 sound) (c.loop-room.invariant.5 some) (search rules)
+    c.in_err-next.ensures.sound (c.loop-room.invariant.5 sound) (c.loop-room.invariant.6 some) (search rules)
 
 pub returns-in_err-next-clause-stays_sound : goal.returns-in_err-next-clause-stays_sound
-returns-in_err-next-clause-stays_sound g c = λ sound. c.in_err-next.ensures.stays_sound (c.loop-room.invariant.4 sound)
+returns-in_err-next-clause-stays_sound g c = λ sound. c.in_err-next.ensures.stays_sound (c.loop-room.invariant.5 sound)
 
 pub returns-then-count-eq0-clause-stays_sound : goal.returns-then-count-eq0-clause-stays_sound
-returns-then-count-eq0-clause-stays_sound g c = λ sound. c.in_ok-next.ensures.stays_sound (c.loop-room.invariant.4 sound)
+returns-then-count-eq0-clause-stays_sound g c = λ sound. c.in_ok-next.ensures.stays_sound (c.loop-room.invariant.5 sound)
 
 pub returns-then-count-eq0-clause-ended : goal.returns-then-count-eq0-clause-ended
 returns-then-count-eq0-clause-ended g c =

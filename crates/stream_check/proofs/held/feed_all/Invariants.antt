@@ -12,6 +12,7 @@ invariant-loop-room g l = (let s = g.S.Shelf in
     × (l.stream.checks.instance ≡ l.initial.stream.checks.instance)
     × (s.faults l.initial.shelf ≤ s.faults l.shelf)
     × (s.held l.shelf ≡ s.held l.initial.shelf)
+    × (s.names l.shelf ≡ s.names l.initial.shelf)
     × (s.sound l.initial.shelf → s.sound l.shelf)
     × (IsSome (s.left l.initial.shelf) → IsSome (s.left l.shelf)))
 

@@ -12,7 +12,7 @@ use Rattle.search_spec.specs.Laws.{GoesOn}
 use Rattle.search_spec.proofs.StepCases.{after_closed, after_open}
 use Rattle.search_spec.proofs.Parting.{length-without}
 use Rattle.search_steps.specs.Advising.{told_by, parts_of}
-use Rattle.separators.specs.Kinds.{parts_for}
+use Rattle.search_progress.specs.Kinds.{parts_for}
 use Rattle.search_steps.specs.Weights.{pairs_of, side_as, sides_as, AreNodeWeights}
 use Rattle.search_steps.proofs.GivenPools.{weights_stay, grown_twice}
 use Rattle.search_steps.proofs.RuleChoices.{room_when}

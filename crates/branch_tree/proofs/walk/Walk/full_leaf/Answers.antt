@@ -4,7 +4,7 @@ use Rattle.hub_spec.specs.Trees.{leaf, TreeLine}
 use Rattle.plan_model.specs.Lines.{tree_line_of}
 use Rattle.search_spec.specs.States.{denominator, whole_on}
 use Rattle.search_spec.specs.Steps.{separated}
-use Rattle.separators.specs.Kinds.{parts_for}
+use Rattle.search_progress.specs.Kinds.{parts_for}
 use Rattle.search_progress.specs.Progressing.{state_of}
 use Rattle.branch_tree.proofs.AddedLines.{line_done, line_at, done_as}
 use Rattle.branch_tree.proofs.LeafSteps.{found_leaf, new_leaf, one_more}

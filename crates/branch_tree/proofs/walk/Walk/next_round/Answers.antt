@@ -3,7 +3,7 @@ use Rattle.std.proofs.lemmas.Result.{IfOk-weaker}
 use Rattle.search_spec.specs.Steps.{round}
 use Rattle.search_spec.proofs.StepCases.{rounds_over}
 use Rattle.search_steps.specs.Weights.{pairs_of}
-use Rattle.separators.specs.Kinds.{parts_for}
+use Rattle.search_progress.specs.Kinds.{parts_for}
 use Rattle.search_steps.proofs.GivenPools.{grown_same}
 use Rattle.search_progress.specs.Progressing.{state_of}
 use Rattle.branch_tree.specs.Rounding.{round_as}

@@ -2,7 +2,7 @@ use Rattle.std.proofs.Common.{ap, ◌∙◌}
 use Rattle.std.proofs.lemmas.Result.{IfOk-weaker}
 use Rattle.search_spec.specs.Steps.{rounds, round}
 use Rattle.search_steps.specs.Weights.{pairs_of}
-use Rattle.separators.specs.Kinds.{parts_for}
+use Rattle.search_progress.specs.Kinds.{parts_for}
 use Rattle.search_steps.proofs.GivenPools.{grown_twice}
 use Rattle.search_progress.specs.Progressing.{state_of}
 use Rattle.branch_tree.proofs.NodeCases.{two_rounds}

@@ -2,6 +2,7 @@ use Rattle.std.proofs.Common.{subst}
 use Rattle.cert_spec.specs.Grammar.{IsTextFault}
 use Rattle.cert_scan.specs.Scanned.{fault_of, Tells}
 use Rattle.cert_stream.proofs.Ends.{are_come, is_read, why_ends, marks_end}
+use Rattle.cert_stream.proofs.Shown.{ending_shown}
 use Rattle.cert_stream.proofs.streams.Stream.finish.Goals as goal
 
 pub ending_of-requires : goal.ending_of-requires
@@ -19,6 +20,14 @@ returns-in-None-clause-why c = λ bytes h.
     let r = is_read bytes s c.finish.result a c.in-None.is (c.finish.ensures.tells bytes a.given a.come.scanned a.few)
     (λ k spells. c.finish.ensures.items bytes a.given k a.come.scanned spells) in
     why_ends s.checks.instance.now bytes r.certificate c.ending_of.result a.short r.spelled (c.ending_of.ensures r.certificate r.spelled.in_range r.taken)
+
+pub returns-in-None-clause-proves : goal.returns-in-None-clause-proves
+returns-in-None-clause-proves c = λ bytes h.
+    let s = c.args.self.now in
+    let a = are_come bytes s c.if-self.false h in
+    let r = is_read bytes s c.finish.result a c.in-None.is (c.finish.ensures.tells bytes a.given a.come.scanned a.few)
+    (λ k spells. c.finish.ensures.items bytes a.given k a.come.scanned spells) in
+    ending_shown s.checks bytes r.certificate c.ending_of.result a.short r.spelled r.taken (c.ending_of.ensures r.certificate r.spelled.in_range r.taken)
 
 pub returns-in-None-clause-marked : goal.returns-in-None-clause-marked
 returns-in-None-clause-marked c = λ bytes h.

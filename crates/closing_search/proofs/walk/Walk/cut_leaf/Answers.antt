@@ -2,17 +2,17 @@ use Rattle.std.proofs.Common.{◌≡◌, ◌≤◌, ℕ, Some, inr, refl, sym, a
 use Rattle.std.specs.Int.{w128}
 use Rattle.std.proofs.lemmas.Int.{to_z-of_z}
 use Rattle.std.proofs.lemmas.List.{length-map}
-use Rattle.std.proofs.lemmas.Result.{on_ok_weaker}
 use Rattle.hub_spec.specs.Trees.{Closes, cut_at}
 use Rattle.plan_model.specs.Lines.{tree_line_of}
 use Rattle.search_spec.specs.States.{denominator, lesser, rounded_up}
-use Rattle.kept_cuts.specs.Kept.{kept_cut}
+use Rattle.cut_pool.specs.Kept.{kept_cut}
 use Rattle.closing_search.specs.Gaps.{IsWithinGap, goal_of}
-use Rattle.closing_search.specs.Progressing.{cuts_of, IsDone}
+use Rattle.closing_search.specs.Progressing.{cuts_of, IsDone, IsLastLine}
 use Rattle.closing_search.specs.SingleCuts.{cut_bound}
-use Rattle.closing_search.proofs.Choices.{number_of, leaf_sound, leaf_in_range, leaf_is_first, said_least, left_closes}
+use Rattle.closing_search.proofs.BestBounds.{on_ok_both}
+use Rattle.closing_search.proofs.Choices.{number_of, leaf_sound, leaf_in_range, leaf_is_first, leaf_says, said_least, left_closes}
 use Rattle.closing_search.proofs.Gaps.{left_within}
-use Rattle.closing_search.proofs.Steps.{leaving, left_going, left_done}
+use Rattle.closing_search.proofs.Steps.{LeafSays, leaving, left_going, left_done}
 use Rattle.closing_search.proofs.walk.Walk.cut_leaf.Goals as goal
 use Rattle.closing_search.proofs.walk.Walk.cut_leaf.Goals.{After-lesser}
 
@@ -70,7 +70,13 @@ returns-clause-done c =
     let b = c.args.branch.now in
     let s = c.args.self.now.progress in
     let after = c.end_with.new.progress in
-    on_ok_weaker c.end_with.result
-    (λ done. let now = subst (λ (low : ℕ). IsDone t b (leaving s s.stopped low) after) c.lesser.ensures done in
-    left_done t b s after s.stopped c.rounded_up.result now.enough now)
-    c.end_with.ensures
+    let line = tree_line_of c.in_ok-line.line in
+    let fits : FitsSigned w128 c.kept_bound-bound.result = search rules in
+    let up = c.rounded_up.ensures ∙ ap rounded_up (to_z-of_z w128 c.kept_bound-bound.result fits ∙ c.kept_bound-bound.ensures.bound) in
+    let leaf : LeafSays t b s line c.rounded_up.result =
+    λ target sound. leaf_says t.instance.now (cuts_of t.instance.now s) target b (Some c.args.number) line c.rounded_up.result c.in_ok-line.ensures up sound in
+    on_ok_both c.end_with.result
+    (λ done last. let now = subst (λ (low : ℕ). IsDone t b (leaving s s.stopped low) after) c.lesser.ensures done in
+    left_done t b s after s.stopped c.rounded_up.result line now.enough leaf now
+    (subst (λ (low : ℕ). IsLastLine t b line (leaving s s.stopped low) after) c.lesser.ensures last))
+    c.end_with.ensures.done c.end_with.ensures.last

@@ -1,6 +1,6 @@
 use Rattle.std.proofs.Common.{refl, sym, subst, arith}
 use Rattle.std.proofs.lemmas.Result.{on_ok_weaker}
-use Rattle.kept_cuts.specs.Kept.{kept_of, kept_cut}
+use Rattle.cut_pool.specs.Kept.{kept_of, kept_cut}
 use Rattle.closing_search.specs.SingleCuts.{AreLoads}
 use Rattle.closing_search.proofs.Steps.{cut_at_step}
 use Rattle.closing_search.proofs.walk.Walk.keep.Goals as goal

@@ -2,16 +2,16 @@ use Rattle.std.proofs.Common.{◌≡◌, ℕ, true, Some, true≢false, refl, sy
 use Rattle.std.specs.Int.{w128}
 use Rattle.std.proofs.lemmas.Int.{to_z-of_z}
 use Rattle.std.proofs.lemmas.List.{length-map}
-use Rattle.std.proofs.lemmas.Result.{on_ok_weaker}
 use Rattle.plan_model.specs.Lines.{tree_line_of}
 use Rattle.search_spec.specs.States.{lesser, rounded_up}
-use Rattle.kept_cuts.specs.Kept.{kept_cut}
+use Rattle.cut_pool.specs.Kept.{kept_cut}
 use Rattle.hub_spec.specs.Trees.{Closes, leaf_bound}
 use Rattle.search_spec.specs.States.{denominator}
 use Rattle.closing_search.specs.SingleCuts.{weights_on}
-use Rattle.closing_search.specs.Progressing.{cuts_of, IsDone}
-use Rattle.closing_search.proofs.Choices.{leaf_sound, leaf_in_range, leaf_is_first, choice_closes, number_in}
-use Rattle.closing_search.proofs.Steps.{leaving, left_going, stop_done}
+use Rattle.closing_search.specs.Progressing.{cuts_of, IsDone, IsLastLine}
+use Rattle.closing_search.proofs.BestBounds.{on_ok_both}
+use Rattle.closing_search.proofs.Choices.{leaf_sound, leaf_in_range, leaf_is_first, leaf_says, choice_closes, number_in}
+use Rattle.closing_search.proofs.Steps.{LeafSays, leaving, left_going, stop_done}
 use Rattle.closing_search.proofs.walk.Walk.stopped_leaf.Goals as goal
 
 pub end_with-requires-clause-going : goal.end_with-requires-clause-going
@@ -56,7 +56,14 @@ returns-clause-done c =
     let b = c.args.branch.now in
     let s = c.args.self.now.progress in
     let after = c.end_with.new.progress in
-    on_ok_weaker c.end_with.result
-    (λ done. stop_done t b s after c.rounded_up.result c.requires.spent c.requires.due
-    (subst (λ (low : ℕ). IsDone t b (leaving s true low) after) c.lesser.ensures done))
-    c.end_with.ensures
+    let choice = c.best_choice-choice.result in
+    let line = tree_line_of c.in_ok-line.line in
+    let fits : FitsSigned w128 choice.bound = search rules in
+    let up = c.rounded_up.ensures ∙ ap rounded_up (to_z-of_z w128 choice.bound fits ∙ c.best_choice-choice.ensures.choice.bound) in
+    let leaf : LeafSays t b s line c.rounded_up.result =
+    λ target sound. leaf_says t.instance.now (cuts_of t.instance.now s) target b choice.number line c.rounded_up.result c.in_ok-line.ensures up sound in
+    on_ok_both c.end_with.result
+    (λ done last. stop_done t b s after c.rounded_up.result line c.requires.spent c.requires.due leaf
+    (subst (λ (low : ℕ). IsDone t b (leaving s true low) after) c.lesser.ensures done)
+    (subst (λ (low : ℕ). IsLastLine t b line (leaving s true low) after) c.lesser.ensures last))
+    c.end_with.ensures.done c.end_with.ensures.last

@@ -2,9 +2,8 @@ use Rattle.std.proofs.Common.{◌≡◌, ℕ, [], ◌∷◌, map, refl, ◌∙�
 use Rattle.std.specs.Int.{w128}
 use Rattle.std.proofs.lemmas.Int.{to_z-of_z}
 use Rattle.hub_spec.specs.Cuts.{Cut}
-use Rattle.search_core.proofs.Weightings.{branch_below}
 use Rattle.closing_search.specs.SingleCuts.{AreLoads, IsOnCut}
-use Rattle.closing_search.proofs.SingleBounds.{cut_numbers, cut_bound_is}
+use Rattle.closing_search.proofs.SingleBounds.{cut_numbers, cut_within, cut_bound_is}
 use Rattle.closing_search.proofs.walk.Walk.sums_close.Goals as goal
 use Rattle.closing_search.proofs.walk.Walk.sums_close.Goals.{After-cut_weighting-weighting}
 
@@ -30,9 +29,8 @@ pub bound_by_number-by_cut-requires-clause-nodes : goal.bound_by_number-by_cut-r
 bound_by_number-by_cut-requires-clause-nodes c =
     let t = c.args.self.now.task.now in
     let sums = c.requires.sums in
-    branch_below t.instance.now c.cut_weighting-weighting.result.fixed.now c.args.branch.now c.requires.going.problem
-    (on_cut (goal.at.bound_by_number-by_cut-requires-clause-nodes c).After-cut_weighting-weighting sums.0 sums.1).fixed_are
-    c.requires.branch
+    cut_within t.instance.now sums.0 c.cut_weighting-weighting.result c.args.branch.now c.requires.going.problem c.requires.branch
+    (on_cut (goal.at.bound_by_number-by_cut-requires-clause-nodes c).After-cut_weighting-weighting sums.0 sums.1)
 
 pub returns : goal.returns
 returns c cut are above =

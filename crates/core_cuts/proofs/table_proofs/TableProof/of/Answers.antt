@@ -1,7 +1,7 @@
 use Rattle.std.proofs.Common.{◌+◌, ◌∙◌, List, length, drop, ap, ap₂}
 use Rattle.core_spec.specs.CoreCuts.{Way, CoreProof}
 use Rattle.frac_rows.specs.Rows.{objective}
-use Rattle.core_runs.specs.CoreTables.{ways_of, ordered_ways}
+use Rattle.core_cuts.specs.CoreTables.{ways_of, ordered_ways}
 use Rattle.core_cuts.proofs.TakenWays.{ordered_taken}
 use Rattle.core_cuts.proofs.table_proofs.TableProof.of.Goals as goal
 

@@ -2,7 +2,7 @@ use Rattle.std.proofs.Common.{ℕ, List, ◌+◌, ◌/◌, ◌<◌, ◌≤◌, �
 use Rattle.std.proofs.lemmas.List.Elements.{All-drop}
 use Rattle.hub_spec.specs.Problem.{flow}
 use Rattle.core_spec.specs.CoreCuts.{pair_cost}
-use Rattle.core_runs.specs.CoreTables.{core_edges, edge_right}
+use Rattle.core_cuts.specs.CoreTables.{core_edges, edge_right}
 use Rattle.core_cuts.specs.Bodies.{most_unit}
 use Rattle.core_cuts.proofs.NeededLists.{needed_from, singles_cost, rest_of, rest_of_map}
 use Rattle.core_cuts.proofs.ProblemLimits.{singles_limit}

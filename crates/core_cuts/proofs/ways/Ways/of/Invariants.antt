@@ -1,5 +1,5 @@
 use Rattle.std.proofs.Common.{◌≡◌, ◌++◌}
-use Rattle.core_runs.specs.CoreTables.{core_edges}
+use Rattle.core_cuts.specs.CoreTables.{core_edges}
 use Rattle.core_cuts.specs.Ahead.{AreCosts}
 use Rattle.core_cuts.proofs.NeededLists.{needed_from}
 use Rattle.core_cuts.proofs.ways.Ways.of.Given as goal

@@ -1,8 +1,8 @@
 use Rattle.std.proofs.Common.{◌≡◌, ◌+◌, ◌≤◌, ◌==◌, ◌++◌, ◌∷◌, [], ℕ, List, length, Some, refl, ap, subst, sym, ◌∙◌, arith}
 use Rattle.std.proofs.Math.Nat.{div-one}
-use Rattle.kept_cuts.specs.Kept.{Kept, by_set}
+use Rattle.cut_pool.specs.Kept.{Kept, by_set}
 use Rattle.cut_pool.specs.Entries.{PoolState, entry_of, Lacks}
-use Rattle.cut_pool.specs.Kept.{sets_of}
+use Rattle.cut_pool.specs.PoolCuts.{sets_of}
 use Rattle.cut_pool.specs.Ordered.{IsIndex}
 use Rattle.cut_pool.specs.PoolParts.{spare_of, state_of}
 use Rattle.cut_pool.proofs.Grown.{HasGrown, spare_number, pool_more, entries_more, spare_more, none_of_these, on_ok_at}

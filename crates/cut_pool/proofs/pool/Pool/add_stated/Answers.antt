@@ -1,7 +1,7 @@
 use Rattle.std.proofs.Common.{◌≡◌, ◌+◌, ◌/◌, ◌≤◌, ◌==◌, ◌++◌, ◌∷◌, [], max, List, length, map, ap, ap₂, subst, sym, ◌∙◌, arith}
-use Rattle.kept_cuts.specs.Kept.{Kept, kept_of, kept_set, kept_part}
+use Rattle.cut_pool.specs.Kept.{Kept, kept_of, kept_set, kept_part}
 use Rattle.cut_pool.specs.Entries.{PoolState, Entry, most_unit, kept_most}
-use Rattle.cut_pool.specs.Kept.{sets_of}
+use Rattle.cut_pool.specs.PoolCuts.{sets_of}
 use Rattle.cut_pool.specs.Ordered.{IsIndex}
 use Rattle.cut_pool.specs.PoolParts.{spare_of, state_of}
 use Rattle.cut_pool.specs.Shorts.{unit_row}

@@ -1,6 +1,6 @@
 use Rattle.std.proofs.Common.{◌≡◌, ◌≢◌, ◌+◌, ◌<◌, ℕ, Some, None, length, get_or, sym, ap, subst, ◌∙◌, arith}
 use Rattle.cut_pool.specs.Entries.{PoolState, IsNumberOf, Lacks}
-use Rattle.cut_pool.specs.Kept.{sets_of}
+use Rattle.cut_pool.specs.PoolCuts.{sets_of}
 use Rattle.cut_pool.specs.PoolParts.{state_of}
 use Rattle.cut_pool.specs.Ordered.{set_at}
 use Rattle.cut_pool.proofs.Columns.{same_members, other_members}

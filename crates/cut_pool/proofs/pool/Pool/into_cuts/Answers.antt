@@ -1,5 +1,5 @@
 use Rattle.std.proofs.Common.{map, sym, ap, ◌∙◌}
-use Rattle.kept_cuts.specs.Kept.{KeptList}
+use Rattle.cut_pool.specs.Kept.{KeptList}
 use Rattle.cut_pool.specs.Entries.{PoolState}
 use Rattle.cut_pool.proofs.Entered.{pool_columns}
 use Rattle.cut_pool.proofs.pool.Pool.into_cuts.Goals as goal

@@ -1,5 +1,5 @@
 use Rattle.std.proofs.Common.{map, ap, sym, ◌∙◌}
-use Rattle.kept_cuts.specs.Kept.{kept_part}
+use Rattle.cut_pool.specs.Kept.{kept_part}
 use Rattle.cut_pool.specs.Entries.{PoolState, entry_part}
 use Rattle.cut_pool.proofs.Columns.{map-map}
 use Rattle.cut_pool.proofs.Entered.{pool_columns}

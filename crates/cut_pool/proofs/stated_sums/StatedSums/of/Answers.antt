@@ -1,4 +1,4 @@
-use Rattle.kept_cuts.proofs.NodeLoads.{loads_are}
+use Rattle.cut_pool.proofs.NodeLoads.{loads_are}
 use Rattle.cut_pool.proofs.stated_sums.StatedSums.of.Goals as goal
 
 pub returns : goal.returns

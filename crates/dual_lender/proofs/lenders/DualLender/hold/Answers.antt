@@ -4,7 +4,7 @@ use Rattle.hub_spec.specs.Cuts.{Prices}
 use Rattle.hub_model.specs.Amounts.{natural}
 use Rattle.plan_model.specs.Prices.{natural_values}
 use Rattle.plan_model.proofs.ListedValues.{listed_again, signed_listed}
-use Rattle.kept_cuts.specs.Kept.{kept_of}
+use Rattle.cut_pool.specs.Kept.{kept_of}
 use Rattle.dual_lender.specs.Lenders.{LenderState, made_dual}
 use Rattle.dual_lender.specs.LenderParts.{lender_with}
 use Rattle.dual_lender.proofs.Lending.{made_without}

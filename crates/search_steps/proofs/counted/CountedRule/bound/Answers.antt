@@ -2,7 +2,7 @@ use Rattle.std.proofs.Common.{Option, ℕ, FitsSigned, rules, subst, ◌∙◌}
 use Rattle.std.specs.Int.{w128}
 use Rattle.std.proofs.lemmas.Int.{to_z-of_z}
 use Rattle.hub_spec.specs.Trees.{HasRoom}
-use Rattle.search_steps.proofs.Weighed.{AreLent, weighting_numbers, weighted_below, counted_lent}
+use Rattle.search_steps.proofs.Weighed.{AreLent, weighting_numbers, weighted_within, counted_lent}
 use Rattle.search_steps.proofs.counted.CountedRule.bound.Goals as goal
 use Rattle.search_steps.proofs.counted.CountedRule.bound.Goals.{After-weighting}
 
@@ -22,7 +22,7 @@ bound_p-requires-clause-numbers c =
 
 pub bound_p-requires-clause-nodes : goal.bound_p-requires-clause-nodes
 bound_p-requires-clause-nodes c =
-    weighted_below c.args.weighed.now.instance.now c.args.weighed.now.pool.now.entries c.args.weighed.now.weights.now c.weighting.result c.args.branch.now
+    weighted_within c.args.weighed.now.instance.now c.args.weighed.now.pool.now.entries c.args.weighed.now.weights.now c.weighting.result c.args.branch.now
     (lent (goal.at.bound_p-requires-clause-nodes c).After-weighting) c.requires.branch
 
 pub bound_p-requires-clause-room : goal.bound_p-requires-clause-room

@@ -8,7 +8,7 @@ use Rattle.p_hub.specs.Fixing.{counted_closes, counted_fixings}
 use Rattle.search_steps.specs.Pools.{state_by, InEachStateAt}
 use Rattle.search_steps.specs.Weights.{pairs_of, sides_as}
 use Rattle.search_steps.proofs.RuleChoices.{between}
-use Rattle.search_steps.proofs.Weighed.{AreLent, weighting_numbers, weighted_below, counted_lent, lent_closes}
+use Rattle.search_steps.proofs.Weighed.{AreLent, weighting_numbers, weighted_within, counted_lent, lent_closes}
 use Rattle.search_steps.proofs.Sides.{sides_are}
 use Rattle.search_steps.proofs.counted.CountedRule.fixings.Goals as goal
 use Rattle.search_steps.proofs.counted.CountedRule.fixings.Goals.{After-weighting}
@@ -29,7 +29,7 @@ fix_p-requires-clause-numbers c =
 
 pub fix_p-requires-clause-nodes : goal.fix_p-requires-clause-nodes
 fix_p-requires-clause-nodes c =
-    weighted_below c.args.weighed.now.instance.now c.args.weighed.now.pool.now.entries c.args.weighed.now.weights.now c.weighting.result c.args.branch.now
+    weighted_within c.args.weighed.now.instance.now c.args.weighed.now.pool.now.entries c.args.weighed.now.weights.now c.weighting.result c.args.branch.now
     (lent (goal.at.fix_p-requires-clause-nodes c).After-weighting) c.requires.branch
 
 pub fix_p-requires-clause-between : goal.fix_p-requires-clause-between

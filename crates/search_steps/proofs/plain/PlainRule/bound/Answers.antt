@@ -1,7 +1,7 @@
 use Rattle.std.proofs.Common.{FitsSigned, rules, ◌∙◌}
 use Rattle.std.specs.Int.{w128}
 use Rattle.std.proofs.lemmas.Int.{to_z-of_z}
-use Rattle.search_steps.proofs.Weighed.{AreLent, weighting_numbers, weighted_below, plain_lent}
+use Rattle.search_steps.proofs.Weighed.{AreLent, weighting_numbers, weighted_within, plain_lent}
 use Rattle.search_steps.proofs.plain.PlainRule.bound.Goals as goal
 use Rattle.search_steps.proofs.plain.PlainRule.bound.Goals.{After-weighting}
 
@@ -21,7 +21,7 @@ bound-requires-clause-numbers c =
 
 pub bound-requires-clause-nodes : goal.bound-requires-clause-nodes
 bound-requires-clause-nodes c =
-    weighted_below c.args.weighed.now.instance.now c.args.weighed.now.pool.now.entries c.args.weighed.now.weights.now c.weighting.result c.args.branch.now
+    weighted_within c.args.weighed.now.instance.now c.args.weighed.now.pool.now.entries c.args.weighed.now.weights.now c.weighting.result c.args.branch.now
     (lent (goal.at.bound-requires-clause-nodes c).After-weighting) c.requires.branch
 
 pub returns-clause-value : goal.returns-clause-value

@@ -7,7 +7,7 @@ use Rattle.hub_fixing.specs.declared.sides.Side.{Side}
 use Rattle.hub_fixing.specs.Fixing.{closes_by, fixings}
 use Rattle.search_steps.specs.Pools.{state_by, InEachStateAt}
 use Rattle.search_steps.specs.Weights.{pairs_of, sides_as}
-use Rattle.search_steps.proofs.Weighed.{AreLent, weighting_numbers, weighted_below, plain_lent, lent_closes}
+use Rattle.search_steps.proofs.Weighed.{AreLent, weighting_numbers, weighted_within, plain_lent, lent_closes}
 use Rattle.search_steps.proofs.Sides.{sides_are}
 use Rattle.search_steps.proofs.plain.PlainRule.fixings.Goals as goal
 use Rattle.search_steps.proofs.plain.PlainRule.fixings.Goals.{After-weighting}
@@ -28,7 +28,7 @@ fix-requires-clause-numbers c =
 
 pub fix-requires-clause-nodes : goal.fix-requires-clause-nodes
 fix-requires-clause-nodes c =
-    weighted_below c.args.weighed.now.instance.now c.args.weighed.now.pool.now.entries c.args.weighed.now.weights.now c.weighting.result c.args.branch.now
+    weighted_within c.args.weighed.now.instance.now c.args.weighed.now.pool.now.entries c.args.weighed.now.weights.now c.weighting.result c.args.branch.now
     (lent (goal.at.fix-requires-clause-nodes c).After-weighting) c.requires.branch
 
 pub fix-requires-clause-not_closed : goal.fix-requires-clause-not_closed

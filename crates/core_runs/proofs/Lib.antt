@@ -1,6 +1,0 @@
-pub mod Combining
-pub mod BestCovers
-pub mod UnitBalances
-pub mod MadeDuals
-pub mod OrderedWays
-pub mod Found

@@ -1,0 +1,5 @@
+pub mod Totals
+pub mod Values
+pub mod Runs
+pub mod CutParts
+pub mod MarkedCuts

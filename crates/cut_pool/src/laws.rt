@@ -1,0 +1,28 @@
+//! What holds of kept cuts.
+
+ghost use Rattle.cut_pool.specs.Theorems.{KeptCutIsCut, KeptCutIsInRange, KeptCutIsFirst, KeptPartIsPart, KeptMarkIsMark};
+
+/// A kept cut is a cut of the problem.
+pub fn kept_cut_is_cut()
+    ensures { KeptCutIsCut }
+{}
+
+/// A certificate may list it.
+pub fn kept_cut_is_in_range()
+    ensures { KeptCutIsInRange }
+{}
+
+/// A certificate of the first version may list it too, where it is made anew.
+pub fn kept_cut_is_first()
+    ensures { KeptCutIsFirst }
+{}
+
+/// Its part is known without the problem.
+pub fn kept_part_is_part()
+    ensures { KeptPartIsPart }
+{}
+
+/// By its mark, if it has one, it is a core cut, and a certificate may list the mark.
+pub fn kept_mark_is_mark()
+    ensures { KeptMarkIsMark }
+{}

@@ -1,0 +1,25 @@
+-- The files that the words name.
+use Rattle.std.specs.Prelude.{◌≡◌, ℕ, List, Option, Some, None, ◌⊎◌}
+use Rattle.hub_words.specs.Requests.{Source, Request, solve, check, report, make, demo, older_named, instance}
+
+-- a file of the instance has this name
+abbrev pub IsFileOf : Source → List ℕ → Type 0
+IsFileOf s name = (name ≡ s.file) ⊎ (s.costs ≡ Some name)
+
+-- the request names the file
+abbrev pub Names : Request → List ℕ → Type 0
+Names (solve s) name = IsFileOf s.source name ⊎ (older_named s.how ≡ Some name)
+Names (check s certificate) name = IsFileOf s name ⊎ (name ≡ certificate)
+Names (report s certificate) name = IsFileOf s name ⊎ (name ≡ certificate)
+Names (make making) name = ⊥
+Names (demo making search) name = ⊥
+
+-- the words name it
+abbrev pub AreNaming : Option Request → List ℕ → Type 0
+AreNaming None name = ⊥
+AreNaming (Some request) name = Names request name
+
+-- the words are no command, or one that names no instance
+abbrev pub NameNone : Option Request → Type 0
+NameNone None = Unit {0}
+NameNone (Some request) = instance request ≡ None

@@ -1,5 +1,0 @@
-use Rattle.kept_cuts.proofs.KeptCutLaws.{kept_is_cut}
-use Rattle.kept_cuts.proofs.laws.kept_cut_is_cut.Goals as goal
-
-pub returns : goal.returns
-returns c = kept_is_cut

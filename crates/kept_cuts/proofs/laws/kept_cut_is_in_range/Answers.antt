@@ -1,5 +1,0 @@
-use Rattle.kept_cuts.proofs.KeptCutLaws.{kept_in_range}
-use Rattle.kept_cuts.proofs.laws.kept_cut_is_in_range.Goals as goal
-
-pub returns : goal.returns
-returns c = kept_in_range

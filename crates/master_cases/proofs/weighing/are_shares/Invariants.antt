@@ -1,5 +1,0 @@
-use Rattle.std.proofs.Common.{◌≡◌, ◌+◌, sum, take}
-use Rattle.master_cases.proofs.weighing.are_shares.Given as goal
-
-abbrev pub invariant-loop-weight : goal.invariant-loop-weight
-invariant-loop-weight l = l.left + sum (take l.weight-index l.weights) ≡ l.most

@@ -1,2 +1,0 @@
-pub mod KindCuts
-pub mod WholeCuts

@@ -1,9 +1,0 @@
-use Rattle.std.proofs.Common.{◌≡◌, ℕ, length, get_or, sum_by, take}
-use Rattle.stated_cuts.specs.Runs.{run_load}
-use Rattle.stated_cuts.proofs.sums.loads_of.Given as goal
-
-abbrev pub invariant-loop-run : goal.invariant-loop-run
-invariant-loop-run l = record {
-  same : length l.loads.items ≡ l.n;
-  sums : (k : ℕ) → get_or l.loads.items k 0 ≡ sum_by (run_load l.values k) (take l.run-index l.runs);
-}

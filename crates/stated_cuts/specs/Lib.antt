@@ -1,4 +1,0 @@
-pub mod Totals
-pub mod Values
-pub mod Runs
-pub mod CutParts

@@ -1,0 +1,134 @@
+//! Cuts of any values of the candidates (`value_cuts`).
+
+ghost use Rattle.std.specs.Prelude.{◌≡◌, ◌<◌, ◌≤◌, length, IfOk};
+ghost use Rattle.value_cuts.specs.Values.{AreValuesFor, allowed_price, node_value};
+ghost use Rattle.value_cuts.specs.HeldRows.{IsSameShape};
+
+use super::texts::{dual_told, sums_told};
+use hub_model::Instance;
+use std::alloc::{AllocError, Global};
+use test_lines::{list, node};
+use value_cuts::{CandidateLegs, DualScratch, PriceScratch, Values, cut_sums, price};
+
+/// What is asked of one row of values in a unit, which has a value for each candidate.
+pub fn asked(alloc: Global, instance: &Instance, line: &str) -> Result<String, AllocError> {
+    let row = list::<u32>(alloc, line, " row ")?;
+    let i = node(line, " from ");
+    let j = node(line, " to ");
+    let n = instance.size();
+    if row.is_empty() || row.len() != instance.candidates().len() || i >= n || j >= n {
+        return String::from_str(alloc, "no row");
+    }
+    let unit = node(line, " unit ");
+    if line.starts_with("value_dual") {
+        return of_commodity(alloc, instance, i, j, unit, &row);
+    }
+    with_row(alloc, instance, unit, &row)
+}
+
+/// The sums of the cut that has this row for each commodity.
+fn with_row(
+    alloc: Global,
+    instance: &Instance,
+    unit: u32,
+    row: &[u32],
+) -> Result<String, AllocError>
+    requires { 1 ≤ length row.now }
+{
+    let mut values = Values::new(alloc, instance, unit)?;
+    fill_all(&mut values, row);
+    copied(alloc, instance, &values)
+}
+
+/// The sums of the cut of a copy of the values.
+fn copied(alloc: Global, instance: &Instance, values: &Values) -> Result<String, AllocError>
+    requires { AreValuesFor instance.now values.now }
+{
+    let copy = values.copy(alloc)?;
+    sums(alloc, instance, &copy)
+}
+
+/// Sets the rows of all commodities.
+fn fill_all(values: &mut Values, row: &[u32])
+    requires { 1 ≤ length row.now }
+    ensures { IsSameShape values.old values.new }
+{
+    let rows = values.rows_mut();
+    for at in 0..rows.len() {
+        rows[at] = row[at % row.len()];
+    }
+}
+
+/// The total and the loads of the cut of the values.
+fn sums(alloc: Global, instance: &Instance, values: &Values) -> Result<String, AllocError>
+    requires { AreValuesFor instance.now values.now }
+{
+    let tables = CandidateLegs::new(alloc, instance)?;
+    priced(alloc, &tables, values)
+}
+
+fn priced(alloc: Global, tables: &CandidateLegs, values: &Values) -> Result<String, AllocError>
+    requires { AreValuesFor tables.now values.now }
+{
+    let size = tables.instance().size() as usize;
+    let mut scratch = PriceScratch::new(alloc, tables)?;
+    let mut prices = vec![in alloc; 0; size * size]?;
+    let mut loads = vec![in alloc; 7; size]?;
+    let total = cut_sums(tables, values, &mut scratch, &mut prices, &mut loads);
+    sums_told(alloc, total, &loads)
+}
+
+/// The dual of the commodity.
+fn of_commodity(
+    alloc: Global,
+    instance: &Instance,
+    i: u32,
+    j: u32,
+    unit: u32,
+    row: &[u32],
+) -> Result<String, AllocError>
+    requires from { i < instance.now.size }
+    requires to { j < instance.now.size }
+    requires row { length row.now ≡ length instance.now.candidates }
+{
+    let tables = CandidateLegs::new(alloc, instance)?;
+    let price = priced_alone(alloc, &tables, i, j, unit, row)?;
+    dual(alloc, &tables, i, j, unit, row, price)
+}
+
+fn priced_alone(
+    alloc: Global,
+    tables: &CandidateLegs,
+    i: u32,
+    j: u32,
+    unit: u32,
+    row: &[u32],
+) -> Result<u64, AllocError>
+    requires from { i < tables.now.size }
+    requires to { j < tables.now.size }
+    requires row { length row.now ≡ length tables.now.candidates }
+    ensures { IfOk result (λ price. price ≡ allowed_price tables.now (i, j) (node_value tables.now unit row.now)) }
+{
+    let mut scratch = PriceScratch::new(alloc, tables)?;
+    Ok(price(tables, i, j, unit, row, &mut scratch))
+}
+
+fn dual(
+    alloc: Global,
+    tables: &CandidateLegs,
+    i: u32,
+    j: u32,
+    unit: u32,
+    row: &[u32],
+    price: u64,
+) -> Result<String, AllocError>
+    requires from { i < tables.now.size }
+    requires to { j < tables.now.size }
+    requires row { length row.now ≡ length tables.now.candidates }
+    requires price { price ≡ allowed_price tables.now (i, j) (node_value tables.now unit row.now) }
+{
+    let mut dual = DualScratch::new(alloc, tables)?;
+    dual.make(tables, i, j, unit, row, price);
+    let (price, values) = dual.dual();
+    dual_told(alloc, price, values)
+}

@@ -1,0 +1,61 @@
+//! Cases of what a search asks of its cuts: `frac_rows` (pivots and runs), `frac_master` (masters and their advice),
+//! `leaf_bound` and `hub_fixing` (bounds of branches, and what they decide) and `cut_pool` (cuts under their numbers).
+//!
+//! A line of standard input is a case, and what it gives is printed. A line that begins with `#` is printed as it is,
+//! and an empty line is passed over. The fields of a case are parted by `;`. Where a field gives numbers, words that are
+//! none are for the reader. A branch has a sign for each node: `+` a hub, `-` closed, `?` free, `.` no candidate. The part
+//! of a cut is 1, but in a field with the word `part`, where it stands before the total.
+//!
+//!     rows RIGHTS; NUMBERS OF THE VARIABLES, ROW BY ROW; STEP; STEP ..       a step: table, run, or pivot ROW COLUMN
+//!     first BRANCH; FIXED COSTS; TOTAL AND LOADS OF A CUT; ..                the master's first table
+//!     advise BRANCH; FIXED COSTS; TOTAL AND LOADS OF A CUT; ..               what it advises
+//!     advise-by-totals BRANCH; ..                                            the same, of loads within their totals
+//!     leaf BRANCH; TARGETS; WEIGHTS AND WHAT THEY ARE SHARES OF; FIXED COSTS; TOTAL AND LOADS OF A CUT; ..
+//!     pool STEP; STEP ..     a step: reserve COUNT, add SET, ORDER, TOTAL, LOADS, find SET, short, or cuts
+//!
+//! In the order of reading: `fields` (numbers, branches and cuts of a line), `limits` (numbers and nodes within
+//! limits), `tables` (rows), `masters`, `weighing` and `leaves` (leaf), `pools` (pool).
+
+mod fields;
+mod leaves;
+mod limits;
+mod masters;
+mod pools;
+mod tables;
+mod weighing;
+
+use std::alloc::{AllocError, Global};
+use std::io;
+
+/// Prints what each line gives.
+pub(crate) fn tell(rt: &HostRuntime, cases: &str) -> io::Result<()> {
+    for line in cases.lines() {
+        let text = answer(rt.alloc(), line)?;
+        print!(rt; "{text}")?;
+    }
+    Ok(())
+}
+
+// What is printed of a line.
+fn answer(alloc: Global, line: &str) -> Result<String, AllocError> {
+    if line.is_empty() {
+        return Ok(String::new(alloc));
+    }
+    if line.starts_with('#') {
+        return format!(in alloc; "{line}\n");
+    }
+    match line.split_once(' ') {
+        Some((word, rest)) => answer_to(alloc, word, rest),
+        None => String::from_str(alloc, "no case\n"),
+    }
+}
+
+fn answer_to(alloc: Global, word: &str, rest: &str) -> Result<String, AllocError> {
+    match word {
+        "rows" => tables::told(alloc, rest),
+        "first" | "advise" | "advise-by-totals" => masters::told(alloc, word, rest),
+        "leaf" => leaves::told(alloc, rest),
+        "pool" => pools::told(alloc, rest),
+        _ => String::from_str(alloc, "no case\n"),
+    }
+}
