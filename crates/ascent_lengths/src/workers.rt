@@ -1,5 +1,7 @@
 //! Who works out advice.
 
+ghost use Rattle.std.specs.Prelude.{◌≤◌};
+
 use std::alloc::Global;
 
 /// No more workers share a work.
@@ -18,7 +20,9 @@ pub struct Workers<'a, R> {
 
 impl<R> Workers<'_, R> {
     /// How many of them share a work in blocks.
-    pub fn many(&self) -> u32 {
+    pub fn many(&self) -> u32
+        ensures { (1 ≤ result) × (result ≤ 64) }
+    {
         self.count.clamp(1, MOST_WORKERS)
     }
 }

@@ -50,7 +50,7 @@ impl Adviser {
             return Ok(false);
         }
         let ground = Ground {
-            workers,
+            workers: &*workers,
             lengths: &self.lengths,
             movable: &self.sets.movable,
         };
@@ -87,7 +87,7 @@ impl Adviser {
         ensures { KeepsShape self.old self.new }
     {
         let ground = Ground {
-            workers,
+            workers: &*workers,
             lengths: &self.lengths,
             movable: &self.sets.movable,
         };
@@ -105,7 +105,7 @@ impl Adviser {
         self.search.set_caps(&self.lengths, &mut self.node.caps);
         if self.lengths.wanted.is_some() {
             let ground = Ground {
-                workers,
+                workers: &*workers,
                 lengths: &self.lengths,
                 movable: &self.sets.movable,
             };
@@ -127,7 +127,8 @@ impl Adviser {
         ensures { KeepsShape self.old self.new }
     {
         let passes = self.progress.passes();
-        let gap = self.progress.gap(wanted, self.scale(wanted));
+        let scale = self.scale(wanted);
+        let gap = self.progress.gap(wanted, scale);
         self.node.is_wide = self.node.is_wide && gap >= WIDE_GAP;
         self.node.coarse = if gap >= COARSE_GAP {
             COARSE

@@ -60,9 +60,9 @@ impl Adviser {
         self.node.little = None;
         self.node.coarse = 0;
         self.node.sort_by_price();
-        self.branch = None;
         let trial = Trial::new(workers.alloc, &self.state, self.bench.core(), &self.listed)?;
         let mut most = -1i128;
+        let mut chosen = None;
         for number in 0..MOST_TRIED {
             let Some(place) = self.near_place(number) else {
                 break;
@@ -72,9 +72,10 @@ impl Adviser {
             let score = branch_score(opened, closed, gap);
             if score > most {
                 most = score;
-                self.branch = Some(place);
+                chosen = Some(place);
             }
         }
+        self.branch = chosen;
         Ok(())
     }
 
@@ -91,7 +92,6 @@ impl Adviser {
         put(&mut self.node.sides, place, side);
         self.node.set_ramps(&self.lengths, None);
         let tried = Tried {
-            state: &mut self.state,
             found: &mut self.found,
             listed: &self.listed,
             turned: Turned {
@@ -104,6 +104,7 @@ impl Adviser {
             &self.lengths,
             self.node.terms(),
             &mut self.bench,
+            &mut self.state,
             tried,
         );
         put(&mut self.node.sides, place, Side::Free);

@@ -34,7 +34,7 @@ impl Adviser {
         if self.sets.tries.note(&self.sets.rounded) {
             self.node.mark_near(&mut self.sets.movable);
             let ground = Ground {
-                workers,
+                workers: &*workers,
                 lengths: &self.lengths,
                 movable: &self.sets.movable,
             };

@@ -11,15 +11,15 @@
 //! their lengths.
 //!
 //! In the order of reading: `ramps` (prices and orders by loads), `waits` (who waits), `sums` (of all duals, and the bound by them), `state`
-//! (all duals), `core` (the places that passes see), `steps` (a mix of old values and new), `origins` (the duals of one
+//! (all duals), `seen` (the places that passes see), `steps` (a mix of old values and new), `origins` (the duals of one
 //! origin), `schedule` (their order), `passes` and `sharing` (one pass, by one worker or by several), `trials` (a pass that is taken back).
 #![tactic(auto)]
 
-mod core;
 mod origins;
 mod passes;
 mod ramps;
 mod schedule;
+mod seen;
 mod sharing;
 mod state;
 mod steps;

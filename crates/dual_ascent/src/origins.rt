@@ -1,7 +1,7 @@
 //! One origin of a pass: the duals of its commodities, bettered one after another.
 
-use crate::core::Core;
 use crate::ramps::{NO_TURN, Ramp, Turn, balanced, set_order, set_prices};
+use crate::seen::Core;
 use crate::steps::{Following, Step, mixed_down};
 use crate::waits::{Gain, NO_GAIN, Quote};
 use ascent_lengths::{Commodity, Lengths, at, copy, fill, gather, row, row_mut};

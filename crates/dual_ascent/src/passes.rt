@@ -7,10 +7,10 @@
 
 ghost use Rattle.dual_ascent.specs.Shapes.{KeepsShape};
 
-use crate::core::Core;
 use crate::origins::{Stand, Terms, View};
 use crate::ramps::{NO_RAMP, Ramp};
 use crate::schedule::{NO_ORIGIN, ScheduledOrigin, Window, schedule};
+use crate::seen::Core;
 use crate::sharing::better_together;
 use crate::state::State;
 use crate::sums::Sums;
@@ -131,20 +131,26 @@ impl State {
     /// that brings. It sees the places of the bench alone.
     ///
     /// They come out the same, whatever the workers. Where there is no memory for several, one makes the pass.
-    pub fn pass<R: Threads + Sync>(
+    pub fn pass<'a, R: Threads + Sync>(
         &mut self,
         workers: &Workers<'_, R>,
-        lengths: &Lengths,
-        terms: Terms<'_>,
-        bench: &mut Bench,
+        lengths: &'a Lengths,
+        terms: Terms<'a>,
+        bench: &'a mut Bench,
     ) -> Gain
         ensures { KeepsShape self.old self.new }
     {
         schedule(lengths, &self.quotes, &mut bench.origins);
         bench.begin(terms.ramps, &self.sums);
         let window = Window::of(lengths.size);
-        let mut terms = terms;
-        terms.ramps = &bench.ramps;
+        let terms = Terms {
+            ramps: &bench.ramps,
+            caps: terms.caps,
+            little: terms.little,
+            hubs: terms.hubs,
+            extra: terms.extra,
+            coarse: terms.coarse,
+        };
         let pass = Pass {
             view: View {
                 lengths,

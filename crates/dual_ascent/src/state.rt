@@ -7,7 +7,7 @@ ghost use Rattle.dual_ascent.specs.Shapes.{cells, KeepsShape};
 use crate::origins::Terms;
 use crate::sums::Sums;
 use crate::waits::{LONG_WAIT, NO_QUOTE, NO_WAIT, Quote};
-use ascent_lengths::{Commodity, Lengths, PlaceValues, at, copy, fill, row, row_mut};
+use ascent_lengths::{Commodity, Lengths, PlaceValues, at, copy, fill, put, row, row_mut};
 use search_advice::Side;
 use std::alloc::{AllocError, Global};
 use std::marker::Model;
@@ -69,7 +69,7 @@ impl State {
     pub fn put_value(&mut self, commodity: usize, k: usize, value: u32)
         ensures { KeepsShape self.old self.new }
     {
-        ascent_lengths::put(row_mut(&mut self.values, commodity, self.places), k, value);
+        scatter(&mut self.values, [commodity, self.places], &[k], &[value]);
     }
 
     /// The prices and waits, commodity by commodity.
@@ -115,7 +115,7 @@ impl State {
         for (quote, price) in quotes.iter_mut().zip(prices) {
             quote.price = *price;
         }
-        copy(values, row_mut(&mut self.values, i, values.len()));
+        copy_into(values, &mut self.values, [i, values.len()]);
     }
 
     /// Takes over these prices and waits.
@@ -187,21 +187,18 @@ impl State {
     {
         fill(&mut self.values, 0);
         copy(values, &mut self.values);
-        for value in self.values.iter_mut() {
-            *value = (*value).min(lengths.longest());
-        }
+        limit(&mut self.values, lengths.longest());
         fill(&mut self.quotes, NO_QUOTE);
         self.sums.clear();
         let (size, places) = (self.size.max(1), self.places);
-        for (c, quote) in self.quotes.iter_mut().enumerate() {
+        let (quotes, sums) = (&mut self.quotes, &mut self.sums);
+        for (c, quote) in quotes.iter_mut().enumerate() {
             let flow = lengths.flow(c) as i64;
             if flow > 0 {
                 let values = row(&self.values, c, places);
                 let legs = Commodity::of(&lengths.tables, c / size, c % size);
                 quote.price = found.greatest_price(&legs, values, lengths.most_price());
-                let added = flow.wrapping_mul(quote.price as i64);
-                self.sums.total = self.sums.total.wrapping_add(added);
-                ascent_lengths::add_weighed(flow, values, &mut self.sums.loads);
+                sums.add_dual(flow, quote.price, values);
             }
         }
     }
@@ -211,6 +208,7 @@ impl State {
         ensures { KeepsShape self.old self.new }
     {
         let (size, places) = (self.size, self.places);
+        let values = self.values.as_mut_slice();
         for i in 0..size {
             for j in 0..size {
                 let (from, to) = (
@@ -218,20 +216,39 @@ impl State {
                     i.wrapping_mul(size).wrapping_add(j),
                 );
                 if lengths.flow(to) == 0 && lengths.flow(from) > 0 {
-                    self.copy_row(from, to, places);
+                    copy_row(values, places, from, to);
                 }
             }
         }
     }
+}
 
-    /// Copies the values of a commodity to another.
-    fn copy_row(&mut self, from: usize, to: usize, places: usize)
-        ensures { KeepsShape self.old self.new }
-    {
-        for k in 0..places {
-            let value = at(row(&self.values, from, places), k);
-            ascent_lengths::put(row_mut(&mut self.values, to, places), k, value);
-        }
+/// Sets the items of these places in a row of a table; the row is told by its number and width.
+pub(crate) fn scatter(table: &mut [u32], index: [usize; 2], places: &[usize], items: &[u32]) {
+    let items_of_row = row_mut(table, index[0], index[1]);
+    for (k, item) in places.iter().zip(items) {
+        put(items_of_row, *k, *item);
+    }
+}
+
+/// Copies the items into a row of a table, which is told by its number and width.
+fn copy_into(items: &[u32], table: &mut [u32], index: [usize; 2]) {
+    copy(items, row_mut(table, index[0], index[1]));
+}
+
+/// Copies a row of so many items to another.
+fn copy_row(table: &mut [u32], width: usize, from: usize, to: usize) {
+    let (from, to) = (from.wrapping_mul(width), to.wrapping_mul(width));
+    for k in 0..width {
+        let item = at(table, from.wrapping_add(k));
+        put(table, to.wrapping_add(k), item);
+    }
+}
+
+/// Lowers the items to no more than this.
+fn limit(items: &mut [u32], most: u32) {
+    for item in items.iter_mut() {
+        *item = (*item).min(most);
     }
 }
 

@@ -112,17 +112,22 @@ impl Step {
         values: &mut [u32],
         following: Following<'_>,
     ) -> bool {
+        let Following {
+            loads,
+            prices,
+            coarse,
+        } = following;
         let mut is_other = false;
         for change in &self.changes {
             let value = mixed_up(change.old, change.new, parts);
             let added = change.weight.wrapping_mul(value as i64 - change.old as i64);
             let load = change.load.wrapping_add(added);
             let price = change.ramp.price(load);
-            let before = at(following.prices, change.place);
-            is_other |= (price > following.coarse) != (before > following.coarse);
+            let before = at(prices, change.place);
+            is_other |= (price > coarse) != (before > coarse);
             put(values, at(places, change.place), value);
-            put(following.loads, change.place, load);
-            put(following.prices, change.place, price);
+            put(loads, change.place, load);
+            put(prices, change.place, price);
         }
         is_other
     }

@@ -1,7 +1,7 @@
 //! The sums of the duals of all commodities, and the bound by them.
 
 use crate::origins::Terms;
-use ascent_lengths::{Lengths, add, at, copy, fill};
+use ascent_lengths::{Lengths, add, add_weighed, at, copy, fill};
 use dual_flow::FULL_PRICE;
 use search_advice::Side;
 use std::alloc::{AllocError, Global};
@@ -42,6 +42,12 @@ impl Sums {
     pub fn add(&mut self, other: &Sums) {
         self.total = self.total.wrapping_add(other.total);
         add(&other.loads, &mut self.loads);
+    }
+
+    /// Adds the dual of a commodity with this flow, price and values.
+    pub(crate) fn add_dual(&mut self, flow: i64, price: u32, values: &[u32]) {
+        self.total = self.total.wrapping_add(flow.wrapping_mul(price as i64));
+        add_weighed(flow, values, &mut self.loads);
     }
 
     /// Forgets all commodities.

@@ -2,13 +2,13 @@
 
 ghost use Rattle.dual_ascent.specs.Shapes.{KeepsShape};
 
-use crate::core::Core;
 use crate::origins::Terms;
 use crate::passes::Bench;
-use crate::state::{State, Turned};
+use crate::seen::Core;
+use crate::state::{State, Turned, scatter};
 use crate::sums::Sums;
 use crate::waits::Quote;
-use ascent_lengths::{Lengths, PlaceValues, Workers, at, put, row, row_mut};
+use ascent_lengths::{Lengths, PlaceValues, Workers, at, row};
 use std::alloc::{AllocError, Global};
 use std::thread::Threads;
 
@@ -46,15 +46,12 @@ impl Trial {
     fn take_back(&self, core: &Core, listed: &[usize], state: &mut State)
         ensures { KeepsShape state.old state.new }
     {
-        let places = state.places;
         state.take_quotes(&self.quotes);
         state.sums.take(&self.sums);
+        let (places, values) = (state.places, state.values.as_mut_slice());
         for (number, c) in listed.iter().enumerate() {
             let kept = row(&self.values, number, core.count());
-            let values = row_mut(&mut state.values, *c, places);
-            for (value, k) in kept.iter().zip(core.places()) {
-                put(values, *k, *value);
-            }
+            scatter(values, [*c, places], core.places(), kept);
         }
     }
 
@@ -66,12 +63,12 @@ impl Trial {
         lengths: &Lengths,
         terms: Terms<'_>,
         bench: &mut Bench,
+        state: &mut State,
         tried: Tried<'_>,
     ) -> i128
-        ensures { KeepsShape tried.state.old tried.state.new }
+        ensures { KeepsShape state.old state.new }
     {
         let Tried {
-            state,
             found,
             listed,
             turned,
@@ -85,11 +82,9 @@ impl Trial {
     }
 }
 
-/// The duals that a trial is made with, room for the values of a commodity, and the place that is opened or closed.
+/// What a trial is made with: room for the values of a commodity, and the place that is opened or closed.
 #[derive(Drop)]
 pub struct Tried<'a> {
-    /// The duals.
-    pub state: &'a mut State,
     /// Room for the values of a commodity.
     pub found: &'a mut PlaceValues,
     /// The commodities that it turns to, as those of the trial.

@@ -199,7 +199,8 @@ fn add_all<R: Threads + Sync>(
     let batch = batch(workers);
     for number in 0..origins.lengths.size.div_ceil(batch) {
         origins.first = number.wrapping_mul(batch);
-        for duals in &fitted(workers, &origins, batch)? {
+        let found = fitted(workers, &origins, batch)?;
+        for duals in &found {
             sums.add(&duals.sums);
         }
     }
@@ -219,19 +220,38 @@ fn fit_all<R: Threads + Sync>(
     fitting.sums.clear();
     let batch = batch(workers);
     for number in 0..lengths.size.div_ceil(batch) {
-        let rule = if is_tight {
-            Rule::Tight(&fitting.routes)
-        } else {
-            Rule::Kept
-        };
-        let mut origins = origins_of(lengths, state, rule, &fitting.stale, &fitting.asked);
-        origins.first = number.wrapping_mul(batch);
-        origins.is_kept = true;
-        let found = fitted(workers, &origins, batch)?;
-        put_all(number.wrapping_mul(batch), &found, state, &mut fitting.sums);
+        let first = number.wrapping_mul(batch);
+        let found = fitted_from(first, workers, lengths, state, fitting, is_tight)?;
+        put_all(first, &found, state, &mut fitting.sums);
     }
     state.take_sums(&fitting.sums);
     Ok(())
+}
+
+/// The duals of a batch of origins, from the first on, to be kept.
+fn fitted_from<'a, R: Threads + Sync>(
+    first: usize,
+    workers: &Workers<'_, R>,
+    lengths: &'a Lengths,
+    state: &'a State,
+    fitting: &'a Fitting,
+    is_tight: bool,
+) -> Result<Vec<Fitted>, AllocError> {
+    let origins = Origins {
+        lengths,
+        rule: if is_tight {
+            Rule::Tight(&fitting.routes)
+        } else {
+            Rule::Kept
+        },
+        stale: &fitting.stale,
+        asked: &fitting.asked,
+        quotes: state.quotes(),
+        values: state.values(),
+        first,
+        is_kept: true,
+    };
+    fitted(workers, &origins, batch(workers))
 }
 
 /// Puts the duals of the origins from the first on in place, and adds them to the sums.
