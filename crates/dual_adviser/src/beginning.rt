@@ -9,7 +9,7 @@ use dual_flow::FULL_PRICE;
 use hub_moves::Ground;
 use std::alloc::AllocError;
 use std::thread::Threads;
-use tight_duals::{Scope, fit_single};
+use tight_duals::{Manner, Scope, fit_single};
 
 /// In so many first passes at the root the start set sets caps and least prices.
 const EARLY_PASSES: usize = 3;
@@ -193,8 +193,13 @@ impl Adviser {
             core: &self.node.core,
             sides: &self.node.sides,
         };
-        self.fitting
-            .complete(workers, &self.lengths, &mut self.state, scope)?;
+        let _ = self.fitting.fit(
+            workers,
+            &self.lengths,
+            &mut self.state,
+            scope,
+            Manner::Whole,
+        )?;
         self.node.make_whole();
         Ok(())
     }

@@ -7,7 +7,7 @@ use ascent_lengths::Workers;
 use hub_moves::Ground;
 use std::alloc::AllocError;
 use std::thread::Threads;
-use tight_duals::Scope;
+use tight_duals::{Manner, Scope};
 
 /// Duals are made tight at a set that costs above the bound by less than this part of its cost, and above the best known one by less than that.
 const NEAR_BOUND: i128 = 1 << 10;
@@ -71,24 +71,35 @@ impl Adviser {
             core: &self.node.core,
             sides: &self.node.sides,
         };
-        let guess = self
-            .fitting
-            .guess(workers, &self.lengths, &self.state, scope)?;
+        let guess = self.fitting.fit(
+            workers,
+            &self.lengths,
+            &mut self.state,
+            scope,
+            Manner::Guess,
+        )?;
         let left = wanted.wrapping_sub(guess);
         if left > wanted.wrapping_sub(bound) / GUESSED_GAP && left > wanted / GUESSED_COST {
             return Ok(());
         }
-        if self
-            .fitting
-            .bound(workers, &self.lengths, &self.state, scope)?
-            < wanted
-        {
+        let tight = self.fitting.fit(
+            workers,
+            &self.lengths,
+            &mut self.state,
+            scope,
+            Manner::Bound,
+        )?;
+        if tight < wanted {
             return Ok(());
         }
-        self.fitting
-            .tighten(workers, &self.lengths, &mut self.state, scope)?;
+        self.progress.bound = self.fitting.fit(
+            workers,
+            &self.lengths,
+            &mut self.state,
+            scope,
+            Manner::Tight,
+        )?;
         self.node.make_whole();
-        self.progress.bound = self.bound();
         Ok(())
     }
 }

@@ -12,5 +12,5 @@ mod origins;
 mod single;
 mod tight;
 
-pub use fitting::{Fitting, Scope};
+pub use fitting::{Fitting, Manner, Scope};
 pub use single::fit_single;

@@ -1,22 +1,14 @@
 //! The fitted duals of an origin. Origins are a crew's work: the duals of each are found by themselves.
 
+use crate::fitting::{Fitting, Manner};
 use crate::tight::{begin_tight, is_tight};
 use ascent_lengths::{Commodity, Lengths, PlaceValues, add_weighed, copy, put, row, row_mut};
 use crew::Job;
 use dual_ascent::{Quote, Sums};
-use hub_moves::SetRoutes;
 use std::alloc::{AllocError, Global};
 
-/// How duals are fitted: made tight at a set, all of them or just those that are not tight yet, or with prices as they are.
-#[derive(Clone, Copy)]
-pub(crate) enum Rule<'a> {
-    Tight(&'a SetRoutes),
-    Loose(&'a SetRoutes),
-    Kept,
-}
-
 /// The fitted duals of an origin, its prices and values, and their sums; where just those that are not tight are fitted, by how much the sums
-/// change. Where the sums alone are asked for there are no values.
+/// change. Where they are not kept there are the sums alone.
 #[derive(Drop)]
 pub(crate) struct Fitted {
     pub(crate) prices: Vec<u32>,
@@ -24,31 +16,29 @@ pub(crate) struct Fitted {
     pub(crate) sums: Sums,
 }
 
-/// Origins whose duals are to be fitted, with the duals of all commodities: block e is the
-/// origin at e after the first. The stale places ask nothing of others, and the asked ones get, in order, what is asked of them. It
-/// tells whether the duals are to be kept, or just their sums.
+/// Origins whose duals are to be fitted, with the duals of all commodities: block e is the origin at e after the first. The stale
+/// places ask nothing of others, and the asked ones get, in order, what is asked of them.
 #[derive(Clone, Copy)]
 pub(crate) struct Origins<'a> {
     pub(crate) lengths: &'a Lengths,
-    pub(crate) rule: Rule<'a>,
-    pub(crate) stale: &'a [usize],
-    pub(crate) asked: &'a [usize],
+    pub(crate) fitting: &'a Fitting,
+    pub(crate) manner: Manner,
     pub(crate) quotes: &'a [Quote],
     pub(crate) values: &'a [u32],
     pub(crate) first: usize,
-    pub(crate) is_kept: bool,
 }
 
 impl<'a> Origins<'a> {
-    /// No duals as yet: the values of the origin where they are to be kept, and all prices and sums 0.
+    /// No duals as yet: the values of the origin and prices of 0 where they are to be kept, and sums of nothing.
     fn begin(&self, alloc: Global, values: &[u32]) -> Result<Fitted, AllocError> {
+        let (prices, values) = if self.manner.keeps() {
+            (vec![in alloc; 0; self.lengths.size]?, values.to_vec(alloc)?)
+        } else {
+            (Vec::new(alloc), Vec::new(alloc))
+        };
         Ok(Fitted {
-            prices: vec![in alloc; 0; self.lengths.size]?,
-            values: if self.is_kept {
-                values.to_vec(alloc)?
-            } else {
-                Vec::new(alloc)
-            },
+            prices,
+            values,
             sums: Sums::new(alloc, self.lengths.places)?,
         })
     }
@@ -63,21 +53,21 @@ impl<'a> Origins<'a> {
     ) -> Option<u32> {
         let [i, j] = from;
         let legs = Commodity::of(&self.lengths.tables, i, j);
-        let price = match self.rule {
-            Rule::Kept => {
-                found.begin_from(&legs, price, values);
-                price
-            }
-            Rule::Loose(routes) if is_tight(routes, self.lengths, from, price, values) =>
-                return None,
-            Rule::Loose(routes) | Rule::Tight(routes) => {
-                begin_tight(routes, self.lengths, from, values, found)
-            }
+        let routes = &self.fitting.routes;
+        let is_guess = self.manner == Manner::Guess;
+        if is_guess && is_tight(routes, self.lengths, from, price, values) {
+            return None;
+        }
+        let price = if self.manner == Manner::Whole {
+            found.begin_from(&legs, price, values);
+            price
+        } else {
+            begin_tight(routes, self.lengths, from, values, found)
         };
-        for k in self.stale {
+        for k in &self.fitting.stale {
             found.withhold(*k);
         }
-        found.settle_asked(&legs, self.asked);
+        found.settle_asked(&legs, &self.fitting.asked);
         Some(price)
     }
 
@@ -92,7 +82,7 @@ impl<'a> Origins<'a> {
 
     /// Takes the dual that was there before from the sums, where these are a change.
     fn take_old(&self, duals: &mut Fitted, flow: i64, price: u32, values: &[u32]) {
-        if let Rule::Loose(_) = self.rule {
+        if self.manner == Manner::Guess {
             let taken = flow.wrapping_mul(price as i64);
             duals.sums.total = duals.sums.total.wrapping_sub(taken);
             add_weighed(0i64.wrapping_sub(flow), values, &mut duals.sums.loads);
