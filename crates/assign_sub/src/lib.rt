@@ -1,4 +1,4 @@
-//! The assignment of all commodities to the hubs of a set: what the set costs, with the least route of each commodity.
+//! The assignment subproblem: the least route of each commodity through a hub set, and the cost of the set.
 //!
 //! Lengths are found by unit of flow, and each is multiplied by its flow at the end. `assignments` finds the best last
 //! hub for each first hub and destination once, so that each route takes one pass over the first hubs: n * n * h steps

@@ -18,24 +18,24 @@ ghost use Rattle.search_progress.specs.Findings.{IsFound};
 
 use crate::searching::search_on;
 use assign_sub::lacking;
+use cut_model::StatedCut;
+use cut_pool::Found;
 use hub_model::{Instance, MOST_CUTS};
 use hub_plain::outside;
-use cut_pool::Found;
 use plan_model::{HubSet, are_among};
 use search_core::{Start, Task};
 use search_progress::{Progress, Separator, begin, number_of, separate};
 use search_steps::Rule;
-use cut_model::StatedCut;
 use std::alloc::{AllocError, Global};
 
 /// What the rule of the search, which serves the instance, finds that begins with these cuts beside its own, and tries
 /// these hubs first: a wanted plan with its cost, a bound that no wanted plan costs less than, and the cuts and the tree
-/// that show it. The given cuts have the numbers after those with which the rule begins, in their order, and keep them.
+/// that show it. The imported cuts have the numbers after those with which the rule begins, in their order, and keep them.
 /// The hubs are separated then, if they may be hubs of a wanted plan and have no cut yet; they are the first
 /// incumbent where they cost less than that of the rule. So the plan costs at most what either does.
 ///
 /// `nodes` is the most nodes of the tree, the root among them; with `None` they are not limited. All candidates together
-/// lack no commodity.
+/// are feasible for each commodity.
 ///
 /// Only where two nodes more are not allowed the search stops, and then the bound is below the cost. Else both are equal
 /// and the plan is optimal. The finding is the same for every separator of the same kind of cuts.
@@ -73,7 +73,7 @@ pub fn search_from<R: Rule, S: Separator>(
     search_on(alloc, rule, &task, separator, progress)
 }
 
-// As the rule begins, then the given cuts, then the hubs.
+// As the rule begins, then the imported cuts, then the hubs.
 fn begin_from<R: Rule, S: Separator>(
     alloc: Global,
     rule: &R,
@@ -98,7 +98,7 @@ fn begin_from<R: Rule, S: Separator>(
     Ok(progress)
 }
 
-// Adds the given cuts, one by one.
+// Adds the imported cuts, one by one.
 fn give(
     alloc: Global,
     task: &Task,
@@ -117,7 +117,7 @@ fn give(
     Ok(())
 }
 
-// Adds a given cut, unless there are as many cuts as a certificate can have.
+// Adds an imported cut, unless there are as many cuts as a certificate can have.
 fn give_one(
     alloc: Global,
     task: &Task,
@@ -165,8 +165,8 @@ fn try_hubs<S: Separator>(
     separate(alloc, task, progress, separator, set, order)
 }
 
-// Tells whether the set is to be tried: its hubs are candidates, lack no commodity and are as many as are wanted, and it
-// has no cut yet.
+// Tells whether the set is to be tried: its hubs are candidates, are feasible for each commodity and are as many as are
+// wanted, and it has no cut yet.
 fn is_tried(task: &Task, progress: &Progress, set: &HubSet) -> bool
     ensures is { let p = task.now.instance.now in result ≡ is_tried p (state_of p progress.now) set.now }
     ensures first_time { IsTrue result → Lacks progress.now.pool.entries set.now }

@@ -3,7 +3,7 @@
 ghost use Rattle.branch_tree.specs.Findings.{SearchIsProved, AgainIsProved, UnlimitedIsFirst, WithoutCoreCuts};
 
 /// What the rule finds is proved by its certificate, which is within the ranges of a certificate's text, where all
-/// candidates together lack no commodity.
+/// candidates together are feasible for each commodity.
 pub fn search_is_proved()
     ensures { SearchIsProved }
 {}
@@ -19,7 +19,7 @@ pub fn unlimited_is_first()
     ensures { UnlimitedIsFirst }
 {}
 
-/// What is found without core cuts is what the search's definition has as the rule.
+/// What is found without Pareto-optimal cuts is what the search's definition has as the rule.
 pub fn without_core_cuts()
     ensures { WithoutCoreCuts }
 {}

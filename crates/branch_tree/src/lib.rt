@@ -1,17 +1,14 @@
-//! The search by rule, with the certificate of what it finds.
+//! Branch and bound by a fixed rule, the search of `solve` and `resolve`, with the certificate of what it finds.
 //!
-//! `search` walks the tree of branches, the open child first; what hangs on the plans that are wanted it asks of a rule
-//! (`search_steps`). At a node it takes up to three rounds of the master's advice, each of which separates a hub set; the
-//! bound of the weights then closes the node, decides candidates one by one, or leaves two children. With a most number
-//! of nodes it stops where two more are not allowed, and each node that is left becomes a leaf. `Found` has the plan with
-//! its cost, the bound, the cuts and the tree that show it.
+//! [`search`] walks the tree depth first, the open child first. At a node it solves the master up to three times, each time
+//! separating a hub set; then the node is fathomed by its bound, candidates are fixed, or it branches. With a limit of
+//! nodes it stops where two more are not allowed, and each pending node becomes a leaf. `Found` has the plan with its cost,
+//! the bound, and the cuts and the tree that prove it. [`search_from`] begins with imported cuts and tries given hubs
+//! first.
 //!
-//! `search_from` is the same search with another start: cuts that are given, of no hub set, are numbered after those with
-//! which the rule begins, and hubs are tried first.
-//!
-//! Each function does what the step of its name in the search's definition says (`search_spec`): it leaves the state that
-//! the step leaves, and adds the lines of its tree in preorder. What holds of the finding is proved of the definition.
-//! Costs are in 10^-12 and weights in 10^-6; nodes are `u32`, counted from 0, and cuts are counted from 1.
+//! Each function does the step of its name in `search_spec`: it reaches the state of that step, and adds the lines of its
+//! tree in preorder. What holds of the finding is proved of the definition. Costs are in 10^-12 and weights in 10^-6; nodes
+//! are `u32`, counted from 0, cuts from 1.
 #![tactic(auto)]
 
 mod again;

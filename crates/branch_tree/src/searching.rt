@@ -14,8 +14,8 @@ ghost use Rattle.search_progress.specs.Findings.{IsFound};
 ghost use Rattle.search_progress.specs.Kinds.{minimal, parts_for};
 
 use crate::walk::Walk;
-use hub_model::Instance;
 use cut_pool::Found;
+use hub_model::Instance;
 use plan_model::Branch;
 use search_core::Task;
 use search_progress::{Progress, Separator, begin, finish};
@@ -24,7 +24,7 @@ use std::alloc::{AllocError, Global};
 
 /// What the rule of the search, which serves the instance, finds: a wanted plan with its cost, a bound that no wanted
 /// plan costs less than, and the cuts and the tree that show it. `nodes` is the most nodes of the tree, the root among
-/// them; with `None` they are not limited. All candidates together lack no commodity.
+/// them; with `None` they are not limited. All candidates together are feasible for each commodity.
 ///
 /// The plan costs at most what all candidates do, or where a number of hubs is wanted as many of the least candidates. Only
 /// where two nodes more are not allowed the search stops, and then the bound is below the cost. Else both are equal and the

@@ -15,10 +15,10 @@ use crate::failures::Failure;
 use crate::kinds::Kind;
 use crate::runs::run_place;
 use cert_format::Version;
+use cut_model::{StatedCut, StatedDual};
 use hub_model::{Instance, MOST_NODES};
 use plan_model::is_among;
 use rayon::prelude::*;
-use cut_model::{StatedCut, StatedDual};
 use std::thread::Threads;
 
 /// A thread takes at least so many duals, so that a small cut is tried on one.

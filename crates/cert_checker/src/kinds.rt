@@ -3,10 +3,10 @@
 ghost use Rattle.std.specs.Prelude.{◌≡◌};
 ghost use Rattle.cert_checker.specs.Answers.{kind_of, kind_name};
 
-/// What a condition is about. `BoundOverCost` fails where the bound is above the cost, `Number` where the plan has not
-/// as many hubs as are wanted, `Length` where a route is not allowed, `Core` where a marked cut is no core cut, `Block`
-/// where a commodity has a route, and `Count` where a leaf has no room for the wanted hubs, or a line says so of a branch
-/// that has.
+/// What a condition is about. `BoundOverCost` fails where the bound is above the cost, `Number` where the plan has not as
+/// many hubs as are wanted, `Length` where a route is not allowed, `Core` where a marked cut is no Pareto-optimal cut,
+/// `Block` where a commodity has a route, and `Count` where a leaf has no room for the wanted hubs, or a line says so of a
+/// branch that has.
 #[derive(Clone, Copy, Debug, PartialEq, Eq)]
 pub enum Kind {
     Size,

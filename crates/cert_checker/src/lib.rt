@@ -1,9 +1,9 @@
-//! What certifies: the check of a certificate against an instance, which takes nothing that a search found.
+//! The check of a whole certificate against an instance; it knows nothing of the search.
 //!
 //! `check` answers by the conditions on a certificate in the order in which they are defined: that its plan is optimal, that
 //! it stands with a lower bound, or the first condition that fails, with its line in the text. `check_text` reads bytes as
 //! a certificate and checks it: its verdict is the one that the definitions give the bytes, and where they are not read it
-//! names what is wrong with them. A marked cut is to be a core cut by its mark; where the verdict is not against the
+//! names what is wrong with them. A marked cut is to be a Pareto-optimal cut by its mark; where the verdict is not against the
 //! certificate, no cut of the instance that is tight at the hubs of a mark dominates the marked cut.
 //!
 //! Of an older certificate, whose cuts a search is to begin with, `check_cuts` tries its size and its cuts for the present

@@ -180,7 +180,7 @@ fn check_proofs(
     Ok(())
 }
 
-/// Tells whether the dual of this number is a core dual by its proof, which is taken by the line.
+/// Tells whether the dual of this number is a Pareto-optimal dual by its proof, which is taken by the line.
 fn is_core_at(
     instance: &Instance,
     proof: &mut ProofLine<'_>,
@@ -221,7 +221,7 @@ fn take_proof(proof: &mut ProofLine<'_>, i: u32, j: u32, stated: &DualProof)
     }
 }
 
-/// Tells whether this is a core dual, with this part, of the commodity whose proof was taken.
+/// Tells whether this is a Pareto-optimal dual, with this part, of the commodity whose proof was taken.
 fn is_core_dual(
     instance: &Instance,
     proof: &ProofLine<'_>,

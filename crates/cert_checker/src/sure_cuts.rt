@@ -8,9 +8,9 @@ ghost use Rattle.cert_checker.specs.Duals.{IsDualAt};
 
 use crate::cuts::is_within_sums;
 use crate::sums::SummedCut;
+use cut_model::{StatedCut, StatedDual};
 use dual_lines::DualLine;
 use hub_model::Instance;
-use cut_model::{StatedCut, StatedDual};
 use std::alloc::{AllocError, Global};
 
 /// Tells whether all of these are cuts of the instance.

@@ -11,9 +11,9 @@ use cut_model::{Mark, StatedCut};
 use plan_model::{Plan, TreeLine};
 use std::marker::Model;
 
-/// A certificate within the ranges of the grammar: a plan and its cost, and cuts with a tree that are to show that no
-/// plan costs less than the bound. In the third version a cut may have a mark, which is to show that it is a core cut.
-/// Whether they do is for a checker to say.
+/// A certificate within the ranges of the grammar: a plan and its cost, and cuts with a tree that are to show that no plan
+/// costs less than the bound. In the third version a cut may have a mark, which is to show that it is a Pareto-optimal
+/// cut. Whether they do is for a checker to say.
 ///
 /// Costs are in 10^-12, and nodes count from 0. A tree is its lines in preorder, the open child first.
 #[derive(Drop)]

@@ -1,8 +1,8 @@
-//! The certificate as a type, and its text written and read.
+//! The certificate as a type; reads and writes its text.
 //!
 //! - [`Certificate`] is a certificate within the ranges of the grammar, seen by contracts as the definitions' `Stated`:
-//!   what its first lines say ([`Heading`]), a plan, cuts (`StatedCut` of `stated_cuts`), for each cut a mark or none
-//!   (`Mark` of `core_marks`), and the lines of a tree. Its text is of the [`Version`] that its first line says.
+//!   what its first lines say ([`Heading`]), a plan, cuts (`StatedCut` of `cut_model`), for each cut a mark or none
+//!   (`Mark` of `cut_model`), and the lines of a tree. Its text is of the [`Version`] that its first line says.
 //! - [`write_cert`] puts its text on a sink: just `certificate_text` of it. [`put_top`], [`put_cut`], [`put_dual`],
 //!   [`put_marked_cut`], [`put_proof`] and [`put_tree`] put its parts, for a text whose duals are made while they are put.
 //! - [`read_cert`] reads bytes back: a certificate exactly where all of the bytes spell it, and otherwise the fault of

@@ -14,10 +14,10 @@ ghost use Rattle.cert_format.specs.Puts.{PutsLine};
 
 use crate::spaced::{put_line, put_number, put_pair, put_words};
 use cert_scan::Version;
+use cut_model::StatedDual;
 use hub_io::{Buffer, Failed, Sink};
 use hub_model::unsigned;
 use plan_model::{Mix, TreeLine};
-use cut_model::StatedDual;
 
 // Puts the line of the hubs.
 pub(crate) fn put_hubs<K: Sink>(

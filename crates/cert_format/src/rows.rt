@@ -8,8 +8,8 @@ ghost use Rattle.cert_format.specs.DualItems.{row_items, dual_row, no_dual, Equa
 
 use crate::lines::put_stated_dual;
 use cert_scan::Version;
-use hub_io::{Buffer, Failed, Sink};
 use cut_model::{StatedCut, StatedDual};
+use hub_io::{Buffer, Failed, Sink};
 use std::marker::Model;
 
 // The duals of the commodities from one node.

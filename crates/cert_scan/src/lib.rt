@@ -1,4 +1,4 @@
-//! The text of a certificate scanned byte by byte: its items one after another, with no memory taken.
+//! Scans the text of a certificate byte by byte into items, without memory.
 //!
 //! - [`Scan`] takes the bytes of a text, one at a time by `step` or many by `run`, and gives an [`Item`] as soon as one
 //!   is told. It holds a few numbers and the pairs of one dual, however long the text is.

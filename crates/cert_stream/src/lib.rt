@@ -1,4 +1,4 @@
-//! The conditions of a certificate tried item by item, with no certificate held.
+//! The check of a certificate whose bytes come in pieces, condition by condition, with no certificate in memory.
 //!
 //! [`Checks`] takes the items that a scan of the text gives, one after another, and tells the first condition that
 //! fails, with its line. It keeps what later conditions speak of: what was said of the cost and the bound, the sums of

@@ -120,7 +120,7 @@ impl<'a> MarkLine<'a> {
         self.proof.take(way.0, way.1, way.2);
     }
 
-    /// Tells whether a dual of this part, with this price and these values, is a core dual by the proof.
+    /// Tells whether a dual of this part, with this price and these values, is a Pareto-optimal dual by the proof.
     pub(crate) fn proves(&mut self, part: u32, price: u128, values: &[(u32, u128)]) -> bool
         requires any_length { self.old.proof.problem.longest ≡ None }
         requires set { IsCandidateSet self.old.proof.problem self.old.hubs }

@@ -1,4 +1,4 @@
-//! Numbers below a limit are given out to threads, each once, over one word that changes in single atomic steps.
+//! Gives the numbers below a limit to threads, each number once, by one atomic word.
 //!
 //! A board gives out the numbers below `blocks`, and a seat is the right to draw from it. A seat has a list of the
 //! numbers drawn and a share of the board, both of which only contracts know, and a mark that it has ended. `split`

@@ -1,5 +1,5 @@
 -- Branches that end: what is left in them, as the parts of the rule by which `solve` searches tell.
-use Rattle.std.proofs.Common.{◌≡◌, ℕ, ◌+◌, ◌≤◌, true, nat_eq, eqb-true, List, [], ◌∷◌, length, take, Contains, Option, None, Some, IfSome, ⊎_elim, refl, sym, subst, ◌∙◌, pos, eq-eqb, ne_eqb, arith}
+use Rattle.std.proofs.Common.{◌≡◌, ℕ, ◌+◌, ◌≤◌, true, nat_eq, eqb-true, List, [], ◌∷◌, length, take, Contains, Option, None, Some, IfSome, ⊎_elim, refl, sym, ap, subst, ◌∙◌, pos, eq-eqb, ne_eqb, arith}
 use Rattle.std.specs.List.Sorted.{IsStrictlyIncreasing}
 use Rattle.std.proofs.lemmas.List.{length-take-le}
 use Rattle.std.proofs.lemmas.Option.{none-some}

@@ -76,7 +76,7 @@ impl<'a> Bench<'a> {
         Ok(self.pricing.sum(&self.tables))
     }
 
-    /// What the cut of the values can be made from anew.
+    /// What the cut of the values can be computed again from.
     pub(crate) fn kept_values(&self, alloc: Global) -> Result<KeptCut, AllocError>
         ensures { IfOk result (λ cut. kept_of cut ≡ by_values self.now.values) }
     {

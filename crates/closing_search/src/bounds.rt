@@ -87,7 +87,7 @@ pub(crate) fn bare_bound(instance: &Instance, branch: &Branch) -> i128
     bound_by_number(instance, &bare_weighting(instance), branch)
 }
 
-/// The bound of the branch by the kept cut of this number alone.
+/// The bound of the branch by the stored cut of this number alone.
 pub(crate) fn kept_bound(task: &Task, branch: &Branch, progress: &Progress, number: u64) -> i128
     requires going { IsGoing task.now progress.now }
     requires branch { IsBranch task.now.instance.now branch.now }
@@ -106,7 +106,7 @@ pub(crate) fn kept_bound(task: &Task, branch: &Branch, progress: &Progress, numb
 }
 
 impl Walk<'_> {
-    /// Tells whether the cut with this total, whose loads the bench has worked out last, closes the goal in the branch,
+    /// Tells whether the cut with this total, whose loads the bench has worked out last, fathoms at the cutoff in the branch,
     /// alone.
     pub(crate) fn sums_close(&self, branch: &Branch, total: u128) -> Result<bool, AllocError>
         requires going { IsGoing self.now.task.now self.now.progress }

@@ -13,7 +13,7 @@ use plan_model::{Branch, HubSet, TreeLine};
 use std::alloc::{AllocError, Global};
 
 /// The line of a branch in which no wanted hub set is left, if none is: it has too many hubs or too few nodes for the
-/// wanted number, or none at all, or its hubs with all its free nodes lack a commodity.
+/// wanted number, or none at all, or its hubs with all its free nodes are infeasible for a commodity.
 pub(crate) fn barren_line(
     alloc: Global,
     instance: &Instance,

@@ -25,11 +25,11 @@ use plan_model::{Branch, HubSet, Mix, TreeLine};
 use search_core::{WHOLE_WEIGHT, lesser, rounded_up, whole_leaf};
 use std::alloc::{AllocError, Global};
 
-/// So many of the newest kept cuts are tried at a branch before advice is asked for.
+/// So many of the newest stored cuts are tried at a branch before advice is asked for.
 const MOST_TRIES: u64 = 64;
 
 impl Walk<'_> {
-    /// Ends the branch with the leaf of the kept cut of this number, which closes the goal.
+    /// Ends the branch with the leaf of the stored cut of this number, which fathoms at the cutoff.
     pub(crate) fn cut_leaf(&mut self, branch: &Branch, number: u64) -> Result<(), AllocError>
         requires going { IsGoing self.old.task.now self.old.progress }
         requires least { 1 ≤ number }
@@ -47,7 +47,7 @@ impl Walk<'_> {
         end_with(self.task, branch, line, &mut self.progress)
     }
 
-    /// The number of a kept cut that closes the goal in the branch, alone, if one of the newest does.
+    /// The number of a stored cut that fathoms at the cutoff in the branch, alone, if one of the newest does.
     pub(crate) fn closing_cut(&self, branch: &Branch) -> Option<u64>
         requires going { IsGoing self.now.task.now self.now.progress }
         requires branch { IsBranch self.now.task.now.instance.now branch.now }
@@ -158,7 +158,7 @@ fn offer_set(
     Ok(())
 }
 
-/// The kept cut with the best bound in a branch, if it is better than that of no cut, and the bound, in 10^-12 times the
+/// The stored cut with the best bound in a branch, if it is better than that of no cut, and the bound, in 10^-12 times the
 /// whole weight.
 #[derive(Clone, Copy)]
 pub(crate) struct Choice {

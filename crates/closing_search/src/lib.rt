@@ -1,24 +1,20 @@
-//! A search of real size that follows no fixed rule, with the certificate of what it finds.
+//! Branch and bound on exact Benders cuts made from heuristic dual values, the search of `optimize`.
 //!
-//! `optimize` walks the tree of branches, the open child first. At a node, advice (`search_advice`) betters hub sets and
-//! values of the candidates for each commodity, and the cut of the values (`value_cuts`) is exact whatever they are. Near
-//! the optimum of the linear relaxation one such cut closes the root: no plan costs less than the incumbent. Where it
-//! does not, the search branches. A branch ends on the cut of its one hub set where just one is left: where nothing is free,
-//! or where just so many hubs are wanted and its hubs are as many, or all its open nodes are. It ends with no cut where no
-//! wanted hub set is left, since it lacks hubs, room for the wanted number or a commodity (`ends`). With a most number of
-//! nodes the search stops where two more are not allowed, and each branch that is left becomes a leaf.
+//! [`optimize`] walks the tree depth first, the open child first. At a node a heuristic (`search_advice`) improves hub sets
+//! and dual values, and the cut of the values (`value_cuts`) is exact whatever they are. Near the optimum of the linear
+//! relaxation one such cut fathoms the node at the incumbent's cost; else the search branches. A branch with one hub set
+//! left ends on the cut of that set, which is tight there. A branch with no wanted hub set left ends without a cut
+//! (`ends`). With a limit of nodes the search stops where two more are not allowed, and each pending branch becomes a leaf.
 //!
-//! Where a number of hubs is wanted, bounds are by that number (`p_hub`), and no other set becomes the incumbent; where the
-//! length of routes is limited, none does that lacks a commodity. The cut of any values serves there too: its prices are low
-//! enough for all routes, so also for those that are allowed.
+//! With exactly p hubs, bounds are those of `p_hub`. With a longest route no infeasible set becomes the incumbent; a cut's
+//! prices are low enough for all routes that are allowed. [`optimize_within`] stops within a gap of the cost: leaves are
+//! fathomed at the cost less the gap, and the bound is the least bound of the leaves.
 //!
-//! Who calls `optimize_within` allows a gap between the bound and the cost. Then a leaf is to close the goal alone, which is the cost less
-//! the gap; what it says of every plan is kept, and the bound is the least of what all leaves say and of the cost.
-//!
-//! Who calls hands in the advice, of which nothing is trusted. Each step keeps what `Progressing` of the specs says: the
-//! lines lead from the root to the branches that are still to be filled (`tree_walks`), and the incumbent has its cost.
-//! `Walk` is what a search is to do (`Task`), works with (`Bench`) and has (`Progress`), and `Walker` goes on with it by advice
-//! (`Guide`). Costs are in 10^-12; nodes are `u32`, counted from 0, cuts are counted from 1.
+//! The contracts: a certificate that holds, with least routes; its cost is at most that of the first incumbent; its bound
+//! is the best that its own tree proves. Each step keeps `Progressing` of the specs: the lines lead from the root to the
+//! branches that are pending (`search_spec::walks`). In the order of reading: `task` (`Task`), `progress` (`Progress`),
+//! `bench` (`Bench`), `walk` (`Walk`), `walker` (`Walker`), `optimizing`. Costs are in 10^-12; nodes are `u32`, counted
+//! from 0, cuts from 1.
 #![tactic(auto)]
 
 mod advising;

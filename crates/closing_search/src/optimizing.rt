@@ -27,14 +27,14 @@ use std::thread::Threads;
 /// that are allowed. It costs at most what all candidates as hubs cost, since the search begins with them; where a number of
 /// hubs is wanted, what as many of the least candidates cost.
 ///
-/// All candidates together lack no commodity: else there is no plan, which is for who calls to say (`assign_sub::lacking`).
-/// Where no length of routes is limited that is so (`all_candidates_serve`).
+/// All candidates together are feasible for each commodity: else there is no plan, which is for who calls to say
+/// (`assign_sub::lacking`). Where no length of routes is limited that is so (`all_candidates_serve`).
 ///
 /// Only where two nodes more are not allowed the search stops, and then the bound may be below the cost. Else both are
 /// equal and the plan is optimal. The bound is the greatest that its cuts prove by its tree. So many nodes as a whole tree has, 2^(q + 1) - 1 for q candidates, are always enough.
 ///
-/// Nothing of the advice is relied on. What is found is the same for equal advice; who advises may make passes by workers,
-/// in threads of their own.
+/// Nothing of the advice is relied on. That the same is found for equal advice is tested, and no clause says it; who advises may
+/// make passes by workers, in threads of their own.
 ///
 /// The answer is `AllocError` where memory runs out, and for a search that would have more cuts or tree lines than a
 /// certificate's text can have, 67,108,864 and 268,435,456.
@@ -69,10 +69,11 @@ pub fn optimize<R: Threads + Sync, A: Advice + Drop>(
     optimize_within(rt, alloc, &task, advice)
 }
 
-/// The same for a task, up to its gap: how far the bound may be below the cost. The plan costs at most what the task's first
-/// nodes do too, where they are a set of candidates, as many as are wanted, that lacks no commodity. Only where two nodes more are not allowed
-/// the search stops, and then the bound may be further below. With a gap of 0 and no first nodes it is `optimize`. The
-/// number of workers changes nothing of what is found.
+/// The same for a task, up to its gap: how far the bound may be below the cost. The plan costs at most what the task's
+/// first nodes do too, where they are a set of candidates, as many as are wanted, that is feasible for each commodity.
+/// Only where two nodes more are not allowed the search stops, and then the bound may be further below. With a gap of 0
+/// and no first nodes it is `optimize`. That the number of workers changes nothing of what is found is tested, and no
+/// clause says it.
 pub fn optimize_within<R: Threads + Sync, A: Advice + Drop>(
     rt: &R,
     alloc: Global,

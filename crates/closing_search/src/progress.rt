@@ -114,8 +114,8 @@ pub(crate) fn offer(task: &Task, set: HubSet, cost: u128, progress: &mut Progres
     }
 }
 
-/// Makes the nodes the incumbent, whatever they are, if they are a set of candidates, as many as are wanted, that lacks no
-/// commodity and costs less.
+/// Makes the nodes the incumbent, whatever they are, if they are a set of candidates, as many as are wanted, that is
+/// feasible for each commodity and costs less.
 pub(crate) fn offer_nodes(
     alloc: Global,
     task: &Task,
@@ -132,8 +132,8 @@ pub(crate) fn offer_nodes(
     Ok(())
 }
 
-/// The nodes, whatever they are, as a hub set, if they are a set of candidates, as many as are wanted, that lacks no
-/// commodity.
+/// The nodes, whatever they are, as a hub set, if they are a set of candidates, as many as are wanted, that is feasible
+/// for each commodity.
 pub(crate) fn wanted_set(
     alloc: Global,
     instance: &Instance,

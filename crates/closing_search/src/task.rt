@@ -20,7 +20,7 @@ pub struct Task<'a> {
     /// How many workers work out exact prices, 1 to 64.
     pub workers: u32,
     /// Nodes that are tried as the first incumbent, whatever they are: they become it where they are a set of candidates, as
-    /// many as are wanted, that lacks no commodity, and cost less than what the search would begin with.
+    /// many as are wanted, that is feasible for each commodity, and cost less than what the search would begin with.
     pub first: &'a [u32],
 }
 

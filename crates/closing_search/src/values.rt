@@ -42,8 +42,8 @@ impl Walk<'_> {
         Ok(true)
     }
 
-    // Keeps the cut of the values that were taken last, and ends the branch: by that cut, if it closes the goal, or else by
-    // a stop.
+    // Keeps the cut of the values that were taken last, and ends the branch: by that cut, if it fathoms at the cutoff, or
+    // else by a stop.
     fn end_by_sums(&mut self, branch: &Branch, total: u128, closes: bool) -> Result<(), AllocError>
         requires going { IsGoing self.old.task.now self.old.progress }
         requires fit { AreValuesFor self.old.task.now.instance.now self.old.bench.values }

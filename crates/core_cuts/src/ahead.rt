@@ -1,4 +1,4 @@
-//! Core duals that are found ahead of their turn.
+//! Pareto-optimal duals that are found ahead of their turn.
 
 ghost use Rattle.std.specs.Prelude.{◌≡◌, ◌*◌, ◌<◌, length, None, All, IfOk, IfSome};
 ghost use Rattle.hub_spec.specs.Plans.{IsHubSet};
@@ -27,8 +27,8 @@ pub(crate) fn nothing_ahead(
     Ok(ahead)
 }
 
-/// The core dual of the commodity from `i` to `j`: the one that was found ahead, if there is one. That of its way back is put
-/// ahead if it is found with it.
+/// The Pareto-optimal dual of the commodity from `i` to `j`: the one that was found ahead, if there is one. That of its
+/// way back is put ahead if it is found with it.
 pub(crate) fn next_dual(
     alloc: Global,
     instance: &Instance,

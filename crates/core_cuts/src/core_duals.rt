@@ -1,4 +1,4 @@
-//! The core dual of a commodity.
+//! The Pareto-optimal dual of a commodity.
 
 ghost use Rattle.std.specs.Prelude.{◌≡◌, ◌↔◌, ◌+◌, ◌<◌, ◌≤◌, length, None, IfOk, IfSome, IsTrue};
 ghost use Rattle.hub_spec.specs.Limits.{most_part};
@@ -25,7 +25,7 @@ use plan_model::{Dual, HubSet};
 use std::alloc::{AllocError, Global};
 use std::marker::Model;
 
-/// A core dual of a commodity: its part, its price and its values, in 10^-12 times the part, and what proves it.
+/// A Pareto-optimal dual of a commodity: its part, its price and its values, in 10^-12 times the part, and what proves it.
 #[derive(Drop)]
 pub struct CoreDual {
     pub part: u32,
@@ -48,8 +48,8 @@ impl Model for CoreDual {
     ghost view = { λ s. record { part = s.part; dual = s.dual; proof = s.proof } };
 }
 
-/// The core dual of the commodity from `i` to `j` at these hubs. There is none where the run of its linear program ends early,
-/// or where what is read of the best table is not tight at the hubs or not within its limits.
+/// The Pareto-optimal dual of the commodity from `i` to `j` at these hubs. There is none where the run of its linear
+/// program ends early, or where what is read of the best table is not tight at the hubs or not within its limits.
 pub fn core_dual(
     alloc: Global,
     instance: &Instance,

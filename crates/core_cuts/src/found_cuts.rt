@@ -1,4 +1,4 @@
-//! The core cut of a hub set.
+//! The Pareto-optimal cut of a hub set.
 
 ghost use Rattle.std.specs.Prelude.{◌≡◌, ◌≤◌, None, IfOk, IfSome};
 ghost use Rattle.std.specs.List.{AllZip};
@@ -19,8 +19,8 @@ use hub_model::Instance;
 use plan_model::HubSet;
 use std::alloc::{AllocError, Global};
 
-/// The core cut of this hub set. There is none where cuts may not be marked, where a commodity has no core dual, or where the
-/// cut is not within the limits of a certificate.
+/// The Pareto-optimal cut of this hub set. There is none where cuts may not be marked, where a commodity has no
+/// Pareto-optimal dual, or where the cut is not within the limits of a certificate.
 pub fn core_cut(
     alloc: Global,
     instance: &Instance,

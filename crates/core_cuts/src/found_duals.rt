@@ -1,4 +1,4 @@
-//! The core duals of all commodities.
+//! The Pareto-optimal duals of all commodities.
 
 ghost use Rattle.std.specs.Prelude.{◌≡◌, ◌↔◌, ℕ, None, Contains, IfOk, IfSome, IsTrue};
 ghost use Rattle.std.specs.List.{AllZip};
@@ -28,7 +28,7 @@ pub(crate) fn may_be_marked(instance: &Instance) -> bool
         && candidates <= 20
 }
 
-/// The core duals of the commodities, in their order; none if there is none for some commodity.
+/// The Pareto-optimal duals of the commodities, in their order; none if there is none for some commodity.
 pub(crate) fn found_duals(
     alloc: Global,
     instance: &Instance,

@@ -1,15 +1,17 @@
-//! Core duals: for a commodity and a hub set a dual that is tight at the set, with a proof that no cut which is tight there
-//! dominates it; and core cuts, the cuts of a hub set all of whose duals are core duals.
+//! Pareto-optimal cuts of a hub set (Magnanti and Wong 1981): for each commodity a dual from an exact linear program, with
+//! its proof.
 //!
-//! They are read off the best table of a linear program, which says of price and values by unit of flow what a dual owes.
-//! The modules build on one another in this order: `edges` and `ways` (the ways of a commodity, and what they cost), `tables` and
-//! `problems` (the table before the first pivot), `ratios` (the basic solution of the last table), `least_parts` (the part that
-//! makes it whole), `unit_prices` (price and values by unit of flow, times the part), `readings` (these of a table), `taken_ways`
-//! and `table_proofs` (what proves the dual), `core_duals`; and for a cut `mirrors` (the core dual of a commodity, and that of its
-//! way back where one linear program gives both), `ahead` (the duals that are known before their turn), `found_duals` (the core
-//! duals of all commodities), `common_parts` (the least part that they have in common), `brought_duals` (one of them with that
-//! part), `brought_cuts` (all of them, within the limits of a certificate), `found_cuts`. The functions below are empty: the
-//! contract of each is a theorem on what is found.
+//! They are read off the best table of a linear program, which says of price and values by unit of flow what a dual owes:
+//! its rows are combinations of the first rows, and its basic solution solves them (`runs`). Whether the run ends at a
+//! best table is seen, not trusted. The modules build on one another in this order: `edges` and `ways` (the ways of a
+//! commodity, and what they cost), `tables` and `problems` (the table before the first pivot), `ratios` (the basic
+//! solution of the last table), `least_parts` (the part that makes it whole), `unit_prices` (price and values by unit of
+//! flow, times the part), `readings` (these of a table), `taken_ways` and `table_proofs` (what proves the dual),
+//! `core_duals`; and for a cut `mirrors` (the Pareto-optimal dual of a commodity, and that of its way back where one
+//! linear program gives both), `ahead` (the duals that are known before their turn), `found_duals` (the Pareto-optimal
+//! duals of all commodities), `common_parts` (the least part that they have in common), `brought_duals` (one of them with
+//! that part), `brought_cuts` (all of them, within the limits of a certificate), `found_cuts`. The functions below are
+//! empty: the contract of each is a theorem on what is found.
 #![tactic(auto)]
 
 mod ahead;
@@ -41,7 +43,7 @@ pub use runs::{
     reading_is_core, run_combines,
 };
 
-/// What is found is feasible, and a core dual by its proof.
+/// What is found is feasible, and a Pareto-optimal dual by its proof.
 pub fn found_is_core()
     ensures { FoundIsCore }
 {}
@@ -66,7 +68,7 @@ pub fn found_in_order()
     ensures { FoundInOrder }
 {}
 
-/// The cut that is found for a hub set is a core cut by its mark.
+/// The cut that is found for a hub set is a Pareto-optimal cut by its mark.
 pub fn cored_is_core()
     ensures { CoredIsCore }
 {}

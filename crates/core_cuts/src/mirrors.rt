@@ -1,5 +1,5 @@
-//! The core dual of a commodity, and that of its way back where this has the same ways at the same costs: then the linear
-//! program of both is the same, and it runs once.
+//! The Pareto-optimal dual of a commodity, and that of its way back where this has the same ways at the same costs: then
+//! the linear program of both is the same, and it runs once.
 
 ghost use Rattle.std.specs.Prelude.{◌≡◌, ◌<◌, None, IfOk, IfSome};
 ghost use Rattle.hub_spec.specs.Plans.{IsHubSet};
@@ -13,14 +13,14 @@ use crate::ways::Ways;
 use hub_model::Instance;
 use std::alloc::{AllocError, Global};
 
-/// The core dual of a commodity, and that of its way back if it is known by then.
+/// The Pareto-optimal dual of a commodity, and that of its way back if it is known by then.
 #[derive(Drop)]
 pub(crate) struct DualPair {
     pub(crate) there: CoreDual,
     pub(crate) back: Option<CoreDual>,
 }
 
-/// The core dual of the commodity from `i` to `j`, with that of its way back if the same run says it.
+/// The Pareto-optimal dual of the commodity from `i` to `j`, with that of its way back if the same run says it.
 pub(crate) fn dual_pair(
     alloc: Global,
     instance: &Instance,
@@ -71,7 +71,7 @@ fn pair_by(
     }
 }
 
-/// The core dual of the way back, if what is read of the run there is read of its own run too.
+/// The Pareto-optimal dual of the way back, if what is read of the run there is read of its own run too.
 fn dual_back(
     alloc: Global,
     instance: &Instance,

@@ -18,7 +18,7 @@ pub fn best_is_balanced()
     ensures { BestIsBalanced }
 {}
 
-/// What is balanced by a cover, and tight, is a core dual by it.
+/// What is balanced by a cover, and tight, is a Pareto-optimal dual by it.
 pub fn balanced_is_core()
     ensures { BalancedIsCore }
 {}
@@ -33,7 +33,7 @@ pub fn core_is_narrow()
     ensures { CoreIsNarrow }
 {}
 
-/// What is read of a best table, if it is tight, is a core dual.
+/// What is read of a best table, if it is tight, is a Pareto-optimal dual.
 pub fn reading_is_core()
     ensures { ReadingIsCore }
 {}

@@ -101,8 +101,8 @@ impl<'a> ProofLine<'a> {
         self.count += 1;
     }
 
-    /// Tells whether a dual of this price, with this value for each node, is a core dual by the proof, where the length of
-    /// routes is not limited.
+    /// Tells whether a dual of this price, with this value for each node, is a Pareto-optimal dual by the proof, where the
+    /// length of routes is not limited.
     pub fn proves(&self, hubs: &[u32], part: u32, price: u128, values: &[u128]) -> bool
         requires any_length { self.now.problem.longest ≡ None }
         requires set { IsCandidateSet self.now.problem hubs.now }

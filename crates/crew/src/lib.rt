@@ -1,4 +1,4 @@
-//! Workers for any work that falls into blocks, each of which is done by itself.
+//! A worker pool: work in blocks, shared by fork and join, with answers in the order of the blocks.
 //!
 //! A [`Job`] says what the answer of a block is, and works it out. [`answers`] has a job done by so many workers, each
 //! in a thread of its own where one can be made, and gives the answers in the order of the blocks: whatever the number

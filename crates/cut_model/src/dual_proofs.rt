@@ -1,4 +1,4 @@
-//! What proves that a dual is a core dual.
+//! What proves that a dual is a Pareto-optimal dual.
 
 ghost use Rattle.std.specs.Prelude.{◌≡◌};
 

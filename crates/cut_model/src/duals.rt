@@ -1,4 +1,4 @@
-//! Duals of stated cuts, lent.
+//! Duals of explicit cuts, lent.
 
 ghost use Rattle.std.specs.Prelude.{◌≡◌, ◌<◌, ◌↔◌, length, slice_index_or, IsTrue};
 ghost use Rattle.hub_spec.specs.Limits.{most_nodes};

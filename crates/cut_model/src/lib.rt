@@ -1,9 +1,11 @@
-//! Cuts as certificates state them, held small.
+//! The explicit cuts of a certificate, held in little memory, and the mark that proves a cut Pareto-optimal.
 //!
 //! A [`StatedCut`] is seen as the definitions' cut: its part, and one dual for each commodity in order. It holds a run of
-//! equal duals once, in 32 bytes, and each value that a dual lists in 16. In the order of reading: `values` (a node with its
-//! value), `duals` (a dual that is lent), `runs` (runs of commodities with one dual), `sums` (their sums), `cuts` (a whole cut). Nodes are `u32`,
-//! counted from 0; prices and values are in 10^-12.
+//! equal duals once, in 32 bytes, and each value that a dual lists in 16; its totals and loads are those of the whole cut.
+//! A [`Mark`] has the hubs of a cut and a proof for each of its duals, a [`MarkedCut`] is a cut with its mark. Whether the
+//! proofs prove anything is for others to say. In the order of reading: `values` (a node with its value), `duals` (a dual
+//! that is lent), `runs` (runs of commodities with one dual), `sums`, `cuts`; then `dual_proofs`, `marks`, `marked`. Nodes
+//! are `u32`, counted from 0; prices and values are in 10^-12.
 #![tactic(auto)]
 
 mod cuts;

@@ -1,10 +1,10 @@
 -- The entries of a pool, and what is read of its cuts.
-use Rattle.std.proofs.Common.{⊎_elim, ◌≡◌, ◌≢◌, ℕ, ◌+◌, ◌-◌, ◌<◌, List, [], Some, None, length, map, get_or, sym, ap, ◌∙◌, Vec, Global, arith}
+use Rattle.std.proofs.Common.{⊎_elim, ◌≡◌, ◌≢◌, ℕ, ◌+◌, ◌-◌, ◌<◌, List, [], Some, None, length, map, get_or, sym, ap, subst, ◌∙◌, Vec, Global, arith}
 use Rattle.std.proofs.lemmas.List.{length-map, get_or-map}
 use Rattle.std.proofs.lemmas.Bool.{cases_lt}
-use Rattle.cut_pool.specs.Kept.{kept_of, kept_set}
+use Rattle.cut_pool.specs.Kept.{kept_of, kept_set, kept_part}
 use Rattle.cut_pool.specs.declared.kept.KeptCut.{KeptCut}
-use Rattle.cut_pool.specs.Entries.{entry_at, IsNumber, IsNumberOf, Lacks}
+use Rattle.cut_pool.specs.Entries.{PoolState, Entry, entry_at, entry_part, IsNumber, IsNumberOf, Lacks}
 use Rattle.cut_pool.specs.PoolCuts.{sets_of}
 use Rattle.cut_pool.specs.Ordered.{IsSplitAt, set_at}
 use Rattle.cut_pool.specs.PoolParts.{state_of, IsPool}
@@ -77,3 +77,29 @@ pub lacks_entries : (s : Inside) → IsPool s → (hubs : List ℕ) (at : ℕ) �
 lacks_entries s is hubs at split none =
     lacks_from_sets _ (sets_of s.cuts.kept.cuts) hubs (sets_column s is)
     (none_is (sets_of s.cuts.kept.cuts) s.by_set.items hubs at is.index split none)
+
+-- ---- what stands at a place
+
+pub place_below : (s : Inside) (p : PoolState) (place : ℕ) → IsPool s → state_of s ≡ p → place < length p.entries
+    → place < length s.cuts.kept.cuts
+place_below s p place is view low =
+    let here = subst (λ (q : PoolState). place < length q.entries) (sym view) low in
+    omega (arith, here, length-entries s is)
+
+pub place_column : {X : Type 0} (f : Entry → X) (s : Inside) → IsPool s → (xs : List X) (place : ℕ) (d : X) → map f (state_of s).entries ≡ xs
+    → place < length s.cuts.kept.cuts → get_or xs place d ≡ f (entry_at (state_of s).entries (place + 1))
+place_column f s is xs place d e below =
+    let same : place ≡ (place + 1) - 1 = omega arith in
+    ap (λ (i : ℕ). get_or xs i d) same ∙ column_at f _ xs (place + 1) d e (number_of s is place below)
+
+pub place_row : (f : Entry → List ℕ) (s : Inside) → IsPool s → (rows : List (Vec ℕ Global)) (v : Vec ℕ Global) (place : ℕ)
+    → map f (state_of s).entries ≡ map (λ v. v.items) rows → v ≡ get_or rows place v → place < length s.cuts.kept.cuts
+    → v.items ≡ f (entry_at (state_of s).entries (place + 1))
+place_row f s is rows v place e read below =
+    let items = λ (w : Vec ℕ Global). w.items in
+    let long = length-column f (state_of s).entries (map items rows) e in
+    ap items read ∙ sym (get_or-map items rows place v [] (omega (arith, below, long, length-entries s is, length-map rows items)))
+    ∙ place_column f s is (map items rows) place [] e below
+
+pub parts_column : (s : Inside) → IsPool s → map entry_part (state_of s).entries ≡ map kept_part s.cuts.kept.cuts
+parts_column s is = sym (map-map kept_part (λ e. e.cut) (state_of s).entries) ∙ ap (map kept_part) (pool_columns s is).cuts

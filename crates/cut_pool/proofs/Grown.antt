@@ -8,7 +8,7 @@ use Rattle.cut_pool.specs.Entries.{Entry, most_stated, Lacks}
 use Rattle.cut_pool.specs.PoolCuts.{most_kept, sets_of, entries_of, AreDistinct}
 use Rattle.cut_pool.specs.Ordered.{IsIndex}
 use Rattle.cut_pool.specs.Shorts.{AreShortIfKept}
-use Rattle.cut_pool.specs.Units.{AreUnitsIfKept}
+use Rattle.cut_pool.specs.Units.{AreUnits}
 use Rattle.cut_pool.specs.PoolParts.{spare_of, state_of, IsPool}
 use Rattle.cut_pool.specs.declared.pool.Pool.TheInside.{Inside}
 use Rattle.cut_pool.proofs.Columns.{entries_push, sets_from_lacks}
@@ -23,7 +23,7 @@ pub record HasGrown (s t : Inside) (e : Entry) : Type 0 where
     loads = s.cuts.kept.loads ++ e.loads ∷ [];
   }
   pub short : AreShortIfKept ((state_of s).entries ++ e ∷ []) t.short
-  pub units : AreUnitsIfKept ((state_of s).entries ++ e ∷ []) t.units
+  pub units : AreUnits ((state_of s).entries ++ e ∷ []) t.units
   pub greatest : t.most_load ≡ most_stated ((state_of s).entries ++ e ∷ [])
 
 -- where a cut more is spare, the last number is not reached
@@ -70,9 +70,10 @@ module _ (s t : Inside) (e : Entry) (is : IsPool s) (grown : HasGrown s t e) whe
             (λ hubs of. sets_from_lacks (state_of s).entries sets hubs (sets_column s is) (lacks hubs of)));
         index = subst (λ (sets : List (Option (List ℕ))). IsIndex sets t.by_set.items) (sym sets_more) index;
         short = subst (λ es. AreShortIfKept es t.short) (sym entries_more) grown.short;
-        units = subst (λ es. AreUnitsIfKept es t.units) (sym entries_more) grown.units;
+        units = subst (λ es. AreUnits es t.units) (sym entries_more) grown.units;
         greatest = grown.greatest ∙ ap most_stated (sym entries_more);
       }
 
-  pub spare_more : s.cuts.spare ≤ t.cuts.spare + 1 → free s.by_set ≤ free t.by_set + 1 → spare_of s ≤ spare_of t + 1
-  spare_more store index = min_more _ _ _ _ (omega (arith, long_cuts)) (min_more _ _ _ _ store index)
+  pub spare_more : s.cuts.spare ≤ t.cuts.spare + 1 → free s.by_set ≤ free t.by_set + 1 → s.units.spare ≤ t.units.spare + 1
+      → spare_of s ≤ spare_of t + 1
+  spare_more store index units = min_more _ _ _ _ (omega (arith, long_cuts)) (min_more _ _ _ _ store (min_more _ _ _ _ index units))

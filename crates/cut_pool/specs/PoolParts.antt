@@ -5,12 +5,12 @@ use Rattle.cut_pool.specs.Entries.{PoolState, most_stated}
 use Rattle.cut_pool.specs.PoolCuts.{most_kept, sets_of, entries_of, AreDistinct}
 use Rattle.cut_pool.specs.Ordered.{IsIndex}
 use Rattle.cut_pool.specs.Shorts.{AreShortIfKept}
-use Rattle.cut_pool.specs.Units.{AreUnitsIfKept}
+use Rattle.cut_pool.specs.Units.{AreUnits}
 use Rattle.cut_pool.specs.declared.pool.Pool.TheInside.{Inside}
 
--- how many more cuts have a number, and a place in the store and in the index
+-- how many more cuts have a number, and a place in the store, in the index and among the sums for one unit
 abbrev pub spare_of : Inside → ℕ
-spare_of s = min (most_kept - length s.cuts.kept.cuts) (min s.cuts.spare (free s.by_set))
+spare_of s = min (most_kept - length s.cuts.kept.cuts) (min s.cuts.spare (min (free s.by_set) s.units.spare))
 
 -- what a pool is seen as
 abbrev pub state_of : Inside → PoolState
@@ -28,5 +28,5 @@ pub record IsPool (s : Inside) : Type 0 where
   pub distinct : AreDistinct (sets_of s.cuts.kept.cuts)
   pub index : IsIndex (sets_of s.cuts.kept.cuts) s.by_set.items
   pub short : AreShortIfKept (state_of s).entries s.short
-  pub units : AreUnitsIfKept (state_of s).entries s.units
+  pub units : AreUnits (state_of s).entries s.units
   pub greatest : s.most_load ≡ most_stated (state_of s).entries

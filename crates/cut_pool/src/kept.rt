@@ -9,14 +9,14 @@ use plan_model::HubSet;
 use std::alloc::{AllocError, Global};
 use std::marker::Model;
 
-/// What the duals of a cut can be made from anew, or these themselves.
+/// What the duals of a cut can be computed again from, or these themselves.
 #[derive(Drop)]
 pub enum KeptCut {
     /// Values of the candidates for each commodity.
     Values(PackedValues),
     /// A hub set and an order of the other candidates.
     Set(HubSet, Vec<u32>),
-    /// A core cut of a hub set, with its mark.
+    /// A Pareto-optimal cut of a hub set, with its mark.
     Core(MarkedCut),
     /// A cut that was given with its duals.
     Given(StatedCut),

@@ -1,10 +1,15 @@
-//! The cuts that a search keeps, and what it found with them.
+//! The cut pool of a search: stored cuts with their numbers, hub sets, totals and loads, and what a search found with them.
 //!
-//! A [`KeptCut`] is what the duals of a cut can be made from anew, values of the candidates or a hub set with an order of the
-//! others; or it is a core cut with its mark, or a cut that was given, with all of their duals. A [`CutStore`] has them side by
-//! side with the part, the total and the loads of each, and says how many more it has room for. [`KeptCuts`] numbers them
-//! from 1, and leaves the room out of sight. [`PackedValues`] are values of which those above 0 alone take memory. A [`Found`]
-//! is a plan with the cuts and the tree that bound what any plan costs. Costs are in 10^-12; nodes are `u32`, counted from 0.
+//! A [`KeptCut`] is what the duals of a cut can be computed again from, values of the candidates or a hub set with an
+//! order of the others; or it is a Pareto-optimal cut with its mark, or a cut that was given, with all of their duals. A
+//! [`CutStore`] has them side by side with their sums, and [`KeptCuts`] numbers them from 1. A [`Pool`] finds the cut of a
+//! hub set besides, by search in an index, keeps no two of one set, and once room is reserved adds a cut for certain. It
+//! lends the sums that bounds and masters are made of, whole or for one unit of a cut's part. A [`Found`] is a plan with
+//! the cuts and the tree that bound what any plan costs.
+//!
+//! In the order of reading: `packed` (values without their zeros), `kept` with `laws`, `store`, `unit_columns`,
+//! `short_loads`, `stated_sums`, `set_cuts` and `places` (the index), `pool`, `found`. Costs are in 10^-12; nodes are
+//! `u32`, counted from 0.
 #![tactic(auto)]
 
 mod cut_sums;

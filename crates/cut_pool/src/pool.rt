@@ -5,15 +5,14 @@ ghost use Rattle.hub_spec.specs.Limits.{most_nodes};
 ghost use Rattle.hub_spec.specs.Ranges.{IsCutInRange};
 ghost use Rattle.cut_pool.specs.Kept.{kept_of, kept_set, kept_part};
 ghost use Rattle.cut_pool.specs.Entries.{entry_of, core_entry, given_entry, entry_at, entry_part, unit_totals, unit_loads, most_stated, IsNumber, IsNumberOf, Lacks};
-ghost use Rattle.cut_pool.specs.Shorts.{AreShortLoads};
+ghost use Rattle.cut_pool.specs.Shorts.{AreShortLoads, unit_row};
 ghost use Rattle.cut_pool.specs.Stated.{IsStated};
-ghost use Rattle.cut_pool.specs.Units.{AreWhole};
 
 use crate::places::{index_next, place_of};
 use crate::set_cuts::hubs_of;
 use crate::short_loads::{reserve_kept, with_cut};
 use crate::stated_sums::StatedSums;
-use crate::unit_columns::{UnitColumns, enter};
+use crate::unit_columns::{UnitColumns, for_one_unit};
 use crate::{CutStore, CutSums, KeptCut, KeptCuts, ShortLoads};
 use cut_model::{MarkedCut, StatedCut};
 use plan_model::HubSet;
@@ -23,8 +22,8 @@ use std::marker::Model;
 // The most cuts of a pool: their numbers are below 2^32.
 const MOST_KEPT: u64 = 4_294_967_295;
 
-/// The cuts of a search, numbered from 1 in the order in which they were added: separated cuts and core cuts, no two of one
-/// hub set, and cuts that were given with their duals, which are of no hub set.
+/// The cuts of a search, numbered from 1 in the order in which they were added: separated cuts and Pareto-optimal cuts, no
+/// two of one hub set, and cuts that were given with their duals, which are of no hub set.
 ///
 /// A pool is seen as its entries, with how many more can be added for certain.
 #[derive(Drop)]
@@ -34,8 +33,8 @@ pub struct Pool {
     by_set: Vec<u32>,
     // The loads in 32 bits, until they are given up.
     short: Option<ShortLoads>,
-    // Totals and loads for one unit of each cut's part, once a part is above 1.
-    units: Option<UnitColumns>,
+    // Totals and loads for one unit of each cut's part.
+    units: UnitColumns,
     // The greatest load of a cut that is kept with its duals, for one unit of its part.
     most_load: u128,
 }
@@ -71,7 +70,7 @@ impl Pool {
             cuts: CutStore::new(alloc),
             by_set: Vec::new(alloc),
             short: Some(ShortLoads::new(alloc)),
-            units: None,
+            units: UnitColumns::new(alloc),
             most_load: 0,
         })
     }
@@ -95,6 +94,7 @@ impl Pool {
         let more = cuts as usize;
         self.cuts.reserve(more)?;
         self.by_set.reserve(more)?;
+        self.units.reserve(more)?;
         reserve_kept(&mut self.short, more)
     }
 
@@ -102,10 +102,8 @@ impl Pool {
     fn spare(&self) -> u64
         ensures { result ≡ self.now.spare }
     {
-        let room = self
-            .cuts
-            .spare()
-            .min(self.by_set.capacity() - self.by_set.len());
+        let index = self.by_set.capacity() - self.by_set.len();
+        let room = self.cuts.spare().min(index.min(self.units.spare()));
         (MOST_KEPT - self.cuts.len() as u64).min(room as u64)
     }
 
@@ -133,14 +131,13 @@ impl Pool {
     /// and gives its number, the next one.
     ///
     /// Cut and order come back where memory is wanting, or where the pool has all the cuts that it can number. With room
-    /// for one more it is sure to succeed while each cut's part is 1: the short loads may still ask for memory, and are
-    /// given up where it is wanting. Once a part is above 1 the loads are kept twice, and the copy asks for memory too.
+    /// for one more it is sure to succeed: the short loads may still ask for memory, and are given up where it is wanting.
     pub fn add(&mut self, cut: CutSums, order: Vec<u32>) -> Result<u64, Refused>
         requires { Lacks self.old.entries cut.hubs }
         ensures number { IfOk result (λ c. c ≡ length self.old.entries + 1) }
         ensures added { OnOk result (self.new.entries ≡ self.old.entries ++ entry_of cut order.items ∷ []) }
         ensures spare { OnOk result (self.old.spare ≤ self.new.spare + 1) }
-        ensures succeeds { 1 ≤ self.old.spare → AreWhole self.old.entries → IsOk result }
+        ensures succeeds { 1 ≤ self.old.spare → IsOk result }
         ensures refused { OnErr result (self.new.entries ≡ self.old.entries) }
         ensures given_back { IfErr result (λ r. r.cut ≡ cut) }
         ensures order_given_back { IfErr result (λ r. r.order.items ≡ order.items) }
@@ -148,21 +145,19 @@ impl Pool {
         if self.reserve(1).is_err() {
             return Err(Refused { cut, order });
         }
-        let alloc = *order.allocator();
-        let (total, loads) = (cut.total(), cut.loads());
-        if enter(alloc, &mut self.units, &self.cuts, 1, total, loads).is_err() {
-            return Err(Refused { cut, order });
-        }
         let place = self.cuts.len();
+        // The part is 1: the whole loads are those for one unit.
+        let row = Vec::new(*order.allocator());
         let (set, total, loads) = cut.into_parts();
         let kept = KeptCut::Set(set, order);
         index_next(self.cuts.cuts(), &mut self.by_set, &kept);
         self.short = with_cut(self.short.take(), place == 0, &loads);
+        self.units.put(total, row);
         self.cuts.put(kept, total, loads);
         Ok(place as u64 + 1)
     }
 
-    /// Adds the core cut of a hub set that has no cut yet, between `size` nodes, and gives its number, the next one.
+    /// Adds the Pareto-optimal cut of a hub set that has no cut yet, between `size` nodes, and gives its number, the next one.
     ///
     /// The cut comes back where memory is wanting, or where the pool has all the cuts that it can number, and its cuts stay
     /// as they were.
@@ -179,7 +174,7 @@ impl Pool {
         let Ok(sums) = StatedSums::of(alloc, size, &cut.cut) else {
             return Err(cut);
         };
-        match self.add_stated(alloc, KeptCut::Core(cut), sums) {
+        match self.add_stated(KeptCut::Core(cut), sums) {
             Ok(number) => Ok(number),
             Err(KeptCut::Core(cut)) => Err(cut),
             Err(_) => unreachable!(),
@@ -203,7 +198,7 @@ impl Pool {
         let Ok(sums) = StatedSums::of(alloc, size, &cut) else {
             return Err(cut);
         };
-        match self.add_stated(alloc, KeptCut::Given(cut), sums) {
+        match self.add_stated(KeptCut::Given(cut), sums) {
             Ok(number) => Ok(number),
             Err(KeptCut::Given(cut)) => Err(cut),
             Err(_) => unreachable!(),
@@ -214,7 +209,7 @@ impl Pool {
     // cut yet.
     //
     // The cut comes back where it is not added, and the cuts stay as they were.
-    fn add_stated(&mut self, alloc: Global, cut: KeptCut, sums: StatedSums) -> Result<u64, KeptCut>
+    fn add_stated(&mut self, cut: KeptCut, sums: StatedSums) -> Result<u64, KeptCut>
         requires stated { IsStated (kept_of cut) }
         requires part { sums.part ≡ kept_part (kept_of cut) }
         requires first_time { (hubs : List ℕ) → kept_set (kept_of cut) ≡ Some hubs → Lacks self.old.entries hubs }
@@ -228,14 +223,11 @@ impl Pool {
         let Ok(()) = self.reserve(1) else {
             return Err(cut);
         };
-        let (part, total, loads) = (sums.part, sums.unit_total, &sums.unit_loads);
-        if enter(alloc, &mut self.units, &self.cuts, part, total, loads).is_err() {
-            return Err(cut);
-        }
         let place = self.cuts.len();
         index_next(self.cuts.cuts(), &mut self.by_set, &cut);
-        self.short = with_cut(self.short.take(), place == 0, loads);
+        self.short = with_cut(self.short.take(), place == 0, sums.unit_loads());
         self.most_load = self.most_load.max(sums.most);
+        self.units.put(sums.unit_total, sums.unit_row);
         self.cuts.put(cut, sums.total, sums.loads);
         Ok(place as u64 + 1)
     }
@@ -272,7 +264,7 @@ impl Pool {
         &self.cuts.cuts()[(c - 1) as usize]
     }
 
-    /// The part of each cut, in the order of their numbers: 1 but for core cuts and given ones.
+    /// The part of each cut, in the order of their numbers: 1 but for Pareto-optimal cuts and given ones.
     pub fn parts(&self) -> &[u32]
         ensures { result.now ≡ map entry_part self.now.entries }
     {
@@ -297,23 +289,31 @@ impl Pool {
     pub fn unit_totals(&self) -> &[u128]
         ensures { result.now ≡ unit_totals self.now.entries }
     {
-        match &self.units {
-            Some(units) => units.totals(),
-            None => self.cuts.totals(),
-        }
+        self.units.totals()
     }
 
     /// The loads of each cut for one unit of its part, in 10^-12, rounded down, in the order of their numbers.
-    pub fn unit_loads(&self) -> &[Vec<u128>]
-        ensures { map (λ v. v.items) result.now ≡ unit_loads self.now.entries }
+    pub fn unit_loads(&self, alloc: Global) -> Result<Vec<&[u128]>, AllocError>
+        ensures { IfOk result (λ rows. map (λ row. row.now) rows.items ≡ unit_loads self.now.entries) }
     {
-        match &self.units {
-            Some(units) => units.loads(),
-            None => self.cuts.loads(),
+        let mut rows = Vec::with_capacity(alloc, self.cuts.len())?;
+        for place in 0..self.cuts.len() {
+            rows.push(self.unit_row(place))?;
         }
+        Ok(rows)
     }
 
-    /// The greatest load of a core cut or a given one for one unit of its part, in 10^-12, rounded down: 0 if there is none.
+    // The loads of the cut at this place, counted from 0, for one unit of its part.
+    fn unit_row(&self, place: usize) -> &[u128]
+        requires { place < length self.now.entries }
+        ensures { result.now ≡ unit_row (entry_at self.now.entries (place + 1)) }
+    {
+        let part = self.cuts.parts()[place];
+        for_one_unit(part, &self.cuts.loads()[place], &self.units.rows()[place])
+    }
+
+    /// The greatest load of a Pareto-optimal cut or a given one for one unit of its part, in 10^-12, rounded down: 0 if
+    /// there is none.
     pub fn most_stated(&self) -> u128
         ensures { result ≡ most_stated self.now.entries }
     {

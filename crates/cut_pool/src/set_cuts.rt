@@ -1,4 +1,4 @@
-//! The hub set of a kept cut.
+//! The hub set of a stored cut.
 
 ghost use Rattle.std.specs.Prelude.{◌≡◌, Some, option_map};
 ghost use Rattle.cut_pool.specs.Kept.{kept_of, kept_set};

@@ -1,17 +1,17 @@
 //! The sums of a cut that is kept with its duals.
 
-ghost use Rattle.std.specs.Prelude.{◌≡◌, ◌≤◌, IfOk};
+ghost use Rattle.std.specs.Prelude.{◌≡◌, ◌/◌, ◌≤◌, map, IfOk};
 ghost use Rattle.hub_spec.specs.Cuts.{total};
 ghost use Rattle.hub_spec.specs.Limits.{most_nodes};
 ghost use Rattle.hub_spec.specs.Ranges.{IsCutInRange};
 ghost use Rattle.cut_pool.specs.Kept.{node_loads};
 
-use crate::unit_columns::{most_per_unit, per_unit};
+use crate::unit_columns::{for_one_unit, most_per_unit, row_of};
 use cut_model::StatedCut;
 use std::alloc::{AllocError, Global};
 use std::marker::Model;
 
-/// The sums of a core cut or a given one, in 10^-12.
+/// The sums of a Pareto-optimal cut or a given one, in 10^-12.
 #[derive(Drop)]
 pub(crate) struct StatedSums {
     /// The part of the cut.
@@ -22,9 +22,9 @@ pub(crate) struct StatedSums {
     pub(crate) loads: Vec<u128>,
     /// The total for one unit of the part, rounded down.
     pub(crate) unit_total: u128,
-    /// The load of each node for one unit of the part, rounded down.
-    pub(crate) unit_loads: Vec<u128>,
-    /// The greatest of these, 0 for none.
+    /// The load of each node for one unit of the part, rounded down, where that is above 1.
+    pub(crate) unit_row: Vec<u128>,
+    /// The greatest load for one unit of the part, rounded down, 0 for none.
     pub(crate) most: u128,
 }
 
@@ -49,15 +49,22 @@ impl StatedSums {
         let part = cut.part();
         let total = cut.total();
         let loads = cut.loads(alloc, size)?;
-        let unit_loads = per_unit(alloc, part, &loads)?;
+        let unit_row = row_of(alloc, part, &loads)?;
         let most = most_per_unit(part, &loads);
         Ok(StatedSums {
             part,
             total,
             loads,
             unit_total: total / u128::from(part),
-            unit_loads,
+            unit_row,
             most,
         })
+    }
+
+    /// The load of each node for one unit of the part, rounded down.
+    pub(crate) fn unit_loads(&self) -> &[u128]
+        ensures { result.now ≡ map (λ u. u / self.now.part) self.now.loads }
+    {
+        for_one_unit(self.part, &self.loads, &self.unit_row)
     }
 }

@@ -1,38 +1,76 @@
 //! Totals and loads for one unit of the parts of cuts.
 
-ghost use Rattle.std.specs.Prelude.{◌≡◌, ℕ, ◌/◌, ◌≤◌, false, None, is_some, map, IsOk, IfOk, OnOk, OnErr};
+ghost use Rattle.std.specs.Prelude.{◌≡◌, ◌+◌, ◌/◌, ◌≤◌, [], ◌∷◌, ◌++◌, length, map, IsOk, IfOk, OnOk};
 ghost use Rattle.cut_pool.specs.Entries.{most_unit};
-ghost use Rattle.cut_pool.specs.Units.{with_unit, whole_of, IsEntered};
+ghost use Rattle.cut_pool.specs.Units.{kept_row};
 
-use crate::CutStore;
 use std::alloc::{AllocError, Global};
 use std::marker::Model;
 
-/// The total of each cut and its load of each node for one unit of the cut's part, in 10^-12, rounded down.
+/// The total of each cut for one unit of the cut's part, and, where that is above 1, its load of each node, in 10^-12,
+/// rounded down. The row of another cut is empty.
+///
+/// Columns are seen as these, with how many more can be put for certain.
 #[derive(Drop)]
 pub(crate) struct UnitColumns {
     totals: Vec<u128>,
-    loads: Vec<Vec<u128>>,
+    rows: Vec<Vec<u128>>,
 }
 
 impl Model for UnitColumns {
-    ghost use Rattle.std.specs.Prelude.{map};
+    ghost use Rattle.std.specs.Prelude.{map, min};
+    ghost use Rattle.cut_pool.specs.StoreParts.{free};
     ghost use Rattle.cut_pool.specs.Units.{Units};
 
     ghost Value = { Units };
 
-    ghost view = { λ s. record { totals = s.totals.items; loads = map (λ v. v.items) s.loads.items } };
+    ghost view = { λ s. record {
+      totals = s.totals.items;
+      rows = map (λ v. v.items) s.rows.items;
+      spare = min (free s.totals) (free s.rows);
+    } };
 }
 
 impl UnitColumns {
-    // The whole totals and loads of the store's cuts.
-    fn of(alloc: Global, store: &CutStore) -> Result<UnitColumns, AllocError>
-        ensures { IfOk result (λ u. u ≡ whole_of store.now.kept) }
+    /// No columns. It takes no memory.
+    pub(crate) fn new(alloc: Global) -> UnitColumns
+        ensures totals { result.totals ≡ [] }
+        ensures rows { result.rows ≡ [] }
     {
-        Ok(UnitColumns {
-            totals: store.totals().to_vec(alloc)?,
-            loads: copied(alloc, store.loads())?,
-        })
+        UnitColumns {
+            totals: Vec::new(alloc),
+            rows: Vec::new(alloc),
+        }
+    }
+
+    /// Takes memory for this many more cuts, so that they can be put.
+    pub(crate) fn reserve(&mut self, more: usize) -> Result<(), AllocError>
+        ensures totals { self.new.totals ≡ self.old.totals }
+        ensures rows { self.new.rows ≡ self.old.rows }
+        ensures spare { OnOk result (more ≤ self.new.spare) }
+        ensures room_stays { self.old.spare ≤ self.new.spare }
+        ensures succeeds { more ≤ self.old.spare → IsOk result }
+    {
+        self.totals.reserve(more)?;
+        self.rows.reserve(more)
+    }
+
+    /// How many more can be put for certain.
+    pub(crate) fn spare(&self) -> usize
+        ensures { result ≡ self.now.spare }
+    {
+        (self.totals.capacity() - self.totals.len()).min(self.rows.capacity() - self.rows.len())
+    }
+
+    /// Puts the total and the row of a cut, for which there is room, at the end. It takes no memory.
+    pub(crate) fn put(&mut self, total: u128, row: Vec<u128>)
+        requires spare { 1 ≤ self.old.spare }
+        ensures totals { self.new.totals ≡ self.old.totals ++ total ∷ [] }
+        ensures rows { self.new.rows ≡ self.old.rows ++ row.items ∷ [] }
+        ensures spare { self.old.spare ≤ self.new.spare + 1 }
+    {
+        self.totals.push_reserved(total);
+        self.rows.push_reserved(row);
     }
 
     /// The totals.
@@ -42,75 +80,35 @@ impl UnitColumns {
         &self.totals
     }
 
-    /// The loads.
-    pub(crate) fn loads(&self) -> &[Vec<u128>]
-        ensures { map (λ v. v.items) result.now ≡ self.now.loads }
+    /// The rows.
+    pub(crate) fn rows(&self) -> &[Vec<u128>]
+        ensures { map (λ v. v.items) result.now ≡ self.now.rows }
     {
-        &self.loads
-    }
-
-    // Adds the total and the loads of a cut. Where memory runs out nothing is added.
-    fn push(&mut self, total: u128, loads: Vec<u128>) -> Result<(), AllocError>
-        ensures added { OnOk result (self.new ≡ with_unit self.old total loads.items) }
-        ensures refused { OnErr result (self.new ≡ self.old) }
-    {
-        self.totals.reserve(1)?;
-        self.loads.reserve(1)?;
-        self.totals.push_reserved(total);
-        self.loads.push_reserved(loads);
-        Ok(())
+        &self.rows
     }
 }
 
-// The rows, copied.
-fn copied(alloc: Global, rows: &[Vec<u128>]) -> Result<Vec<Vec<u128>>, AllocError>
-    ensures { IfOk result (λ copies. map (λ v. v.items) copies.items ≡ map (λ v. v.items) rows.now) }
-{
-    let mut copies = Vec::with_capacity(alloc, rows.len())?;
-    for row in rows {
-        copies.push(row.to_vec(alloc)?)?;
-    }
-    Ok(copies)
-}
-
-/// Adds a cut of this part, with its total and loads for one unit of it, to the columns that are kept beside the store.
-///
-/// They are kept from the first cut on whose part is above 1: until then the store's own columns are the same. Where
-/// memory runs out nothing changes.
-pub(crate) fn enter(
-    alloc: Global,
-    kept: &mut Option<UnitColumns>,
-    store: &CutStore,
-    part: u32,
-    total: u128,
-    loads: &[u128],
-) -> Result<(), AllocError>
-    ensures entered { OnOk result (IsEntered kept.old kept.new (whole_of store.now.kept) part total loads.now) }
-    ensures succeeds { part ≡ 1 → kept.old ≡ None → IsOk result }
-    ensures refused { OnErr result (kept.new ≡ kept.old) }
-{
-    if let Some(columns) = kept {
-        return columns.push(total, loads.to_vec(alloc)?);
-    }
-    if part == 1 {
-        return Ok(());
-    }
-    let mut columns = UnitColumns::of(alloc, store)?;
-    columns.push(total, loads.to_vec(alloc)?)?;
-    *kept = Some(columns);
-    Ok(())
-}
-
-/// The loads for one unit of the part, rounded down.
-pub(crate) fn per_unit(alloc: Global, part: u32, loads: &[u128]) -> Result<Vec<u128>, AllocError>
+/// The row of a cut of this part: its loads for one unit of it, rounded down, where that is above 1.
+pub(crate) fn row_of(alloc: Global, part: u32, loads: &[u128]) -> Result<Vec<u128>, AllocError>
     requires { 1 ≤ part }
-    ensures { IfOk result (λ units. units.items ≡ map (λ u. u / part) loads.now) }
+    ensures { IfOk result (λ row. row.items ≡ kept_row part loads.now) }
 {
-    let mut units = Vec::with_capacity(alloc, loads.len())?;
-    for load in loads {
-        units.push(*load / u128::from(part))?;
+    if part == 1 {
+        return Ok(Vec::new(alloc));
     }
-    Ok(units)
+    let mut row = Vec::with_capacity(alloc, loads.len())?;
+    for load in loads {
+        row.push(*load / u128::from(part))?;
+    }
+    Ok(row)
+}
+
+/// The loads of a cut of this part for one unit of it, rounded down: its row, or the whole ones.
+pub(crate) fn for_one_unit<'a>(part: u32, loads: &'a [u128], row: &'a [u128]) -> &'a [u128]
+    requires { row.now ≡ kept_row part loads.now }
+    ensures { result.now ≡ map (λ u. u / part) loads.now }
+{
+    if part == 1 { loads } else { row }
 }
 
 /// The greatest of the loads for one unit of the part, 0 for none.

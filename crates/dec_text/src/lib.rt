@@ -1,4 +1,4 @@
-//! Texts: tokens and numbers are read from bytes, and numbers and lines are put on a sink.
+//! Reads tokens and decimal numbers from bytes, and prints numbers and lines.
 //!
 //! - [`Tokens`] goes over the tokens of a file, each with its place.
 //! - [`read_decimal`] reads a decimal of a token, cut to so many places, or answers [`BadNumber`].
@@ -6,7 +6,7 @@
 //! - [`put_line`] puts the [`Piece`]s of a line as one text, [`put_pieces`] does so through a buffer that many lines
 //!   share, and [`put_number`], [`put_fixed`] and [`put_after_space`] put one number.
 //!
-//! Nothing here takes memory. What a token is, which number it writes and how one is written out is defined in
+//! Nothing here takes memory. What a token is, which number it writes and how one is printed is defined in
 //! `text_spec`; what a piece writes, in `specs/Lines.antt`.
 #![tactic(auto)]
 

@@ -1,4 +1,4 @@
-//! Desks at which threads tell each other what they found.
+//! Message passing between threads: a ring for each ordered pair of threads, without locks or waiting.
 //!
 //! Each of several threads has a [`Desk`]. What one tells goes to all others, who hear it when they ask; nobody waits, and
 //! nothing is locked. All desks that were made together have one key. What may be told holds under that key ([`Told`]), so

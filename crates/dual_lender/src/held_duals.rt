@@ -6,9 +6,9 @@ ghost use Rattle.hub_spec.specs.Separation.{AreListedValues};
 ghost use Rattle.hub_model.specs.Amounts.{natural};
 ghost use Rattle.plan_model.specs.Prices.{natural_values, signed_values, AreSignedPrices};
 
+use cut_model::StatedDual;
 use hub_model::signed;
 use plan_model::list_value;
-use cut_model::StatedDual;
 use std::alloc::{AllocError, Global};
 use std::marker::Model;
 

@@ -1,4 +1,4 @@
-//! Duals of kept cuts, lent one at a time.
+//! Duals of stored cuts, lent one at a time.
 
 ghost use Rattle.std.specs.Prelude.{◌≡◌, ◌+◌, ◌*◌, ◌<◌, ◌≤◌, ◌↔◌, pos, length, IfOk, IsTrue};
 ghost use Rattle.hub_spec.specs.Problem.{IsProblem};
@@ -11,18 +11,18 @@ ghost use Rattle.dual_lender.specs.LenderParts.{lender_with};
 
 use crate::held_duals::HeldDual;
 use crate::value_rooms::ValueRoom;
-use hub_model::Instance;
-use cut_pool::KeptCut;
-use pareto_cuts::Scratch;
 use cut_model::StatedCut;
+use cut_pool::KeptCut;
+use hub_model::Instance;
+use pareto_cuts::Scratch;
 use std::alloc::{AllocError, Global};
 use std::marker::Model;
 
-/// Room to make the duals of an instance's kept cuts in, taken once, from which one dual at a time is lent.
+/// Room to make the duals of an instance's stored cuts in, taken once, from which one dual at a time is lent.
 ///
-/// It is told the cut first, then an origin, then each destination. The dual of a cut that is kept with its duals, a core cut
-/// or a given one, is unpacked when it is made. A second dual can be held, so that the one made last is compared with it. No
-/// call takes memory.
+/// It is told the cut first, then an origin, then each destination. The dual of a cut that is kept with its duals, a
+/// Pareto-optimal cut or a given one, is unpacked when it is made. A second dual can be held, so that the one made last is
+/// compared with it. No call takes memory.
 #[derive(Drop)]
 pub struct DualLender<'a> {
     values: ValueRoom<'a>,

@@ -8,8 +8,8 @@ ghost use Rattle.value_cuts.specs.Prices.{ArePricesFrom};
 ghost use Rattle.cut_pool.specs.Packed.{row_of, AreRowsFrom};
 ghost use Rattle.dual_lender.specs.Lenders.{commodity_dual, HasPricesFrom};
 
-use hub_model::Instance;
 use cut_pool::PackedValues;
+use hub_model::Instance;
 use std::alloc::{AllocError, Global};
 use std::marker::Model;
 use value_cuts::{CandidateLegs, DualScratch, PriceScratch, price};

@@ -116,7 +116,7 @@ impl<'a> CommodityLine<'a> {
         self.are_candidates = true;
     }
 
-    /// Turns to another commodity of the origin, with the same dual: what depends on the flow is made anew, in time of
+    /// Turns to another commodity of the origin, with the same dual: what depends on the flow is computed again, in time of
     /// what is listed. Nothing is done where it is the commodity already.
     pub(crate) fn turn_to(&mut self, j: u32)
         requires { j < self.old.problem.size }

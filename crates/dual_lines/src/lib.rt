@@ -1,4 +1,4 @@
-//! Duals of an instance's commodities, tested one after another, with no memory of those before.
+//! Tests the duals of a certificate for feasibility, one line at a time.
 //!
 //! A certificate lists for a run of commodities a price and values of nodes; they are a feasible dual where no route that
 //! is allowed by way of candidates costs, times the part of the cut, less than the price, with the values of its hubs

@@ -1,4 +1,4 @@
-//! Distances in the plane in whole numbers, by the root of a whole number.
+//! Plane distances and square roots in whole numbers, rounded down.
 //!
 //! [`distance`] is the planar distance of the definitions in `file_spec`, and [`root`] the root that it is made with.
 //! Nothing here takes memory.

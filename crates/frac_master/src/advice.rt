@@ -33,14 +33,14 @@ pub struct Advice {
 pub fn advise(
     alloc: Global,
     totals: &[u128],
-    loads: &[Vec<u128>],
+    loads: &[&[u128]],
     fixed: &[u128],
     branch: &Branch,
 ) -> Result<Advice, AllocError>
-    requires numbers { AreMasterNumbers totals.now (map (λ v. v.items) loads.now) fixed.now }
+    requires numbers { AreMasterNumbers totals.now (map (λ row. row.now) loads.now) fixed.now }
     requires nodes { All (λ k. k < length fixed.now) (candidates_of branch.now) }
     ensures advice { IfOk result
-        (λ a. advice_of_code a ≡ advice (master_of totals.now (map (λ v. v.items) loads.now) fixed.now) branch.now) }
+        (λ a. advice_of_code a ≡ advice (master_of totals.now (map (λ row. row.now) loads.now) fixed.now) branch.now) }
     ensures weights { IfOk result (λ a. AreMixWeights (length totals.now) a.weights.items) }
 {
     let greatest = greatest_number(totals, loads, fixed, branch);
@@ -55,19 +55,19 @@ pub fn advise(
 pub fn advise_by_totals(
     alloc: Global,
     totals: &[u128],
-    loads: &[Vec<u128>],
+    loads: &[&[u128]],
     short: Option<ShortRows<'_>>,
     most_load: u128,
     fixed: &[u128],
     branch: &Branch,
 ) -> Result<Advice, AllocError>
-    requires numbers { AreMasterNumbers totals.now (map (λ v. v.items) loads.now) fixed.now }
+    requires numbers { AreMasterNumbers totals.now (map (λ row. row.now) loads.now) fixed.now }
     requires nodes { All (λ k. k < length fixed.now) (candidates_of branch.now) }
-    requires short { IfSome short (λ s. AreShortRows s.halvings (map (λ v. v.items) s.rows.now) (map (λ v. v.items) loads.now)) }
-    requires within { AreWithinTotals most_load totals.now (map (λ v. v.items) loads.now) }
-    requires reached { most_load ≤ greatest_number (master_of totals.now (map (λ v. v.items) loads.now) fixed.now) branch.now }
+    requires short { IfSome short (λ s. AreShortRows s.halvings (map (λ v. v.items) s.rows.now) (map (λ row. row.now) loads.now)) }
+    requires within { AreWithinTotals most_load totals.now (map (λ row. row.now) loads.now) }
+    requires reached { most_load ≤ greatest_number (master_of totals.now (map (λ row. row.now) loads.now) fixed.now) branch.now }
     ensures advice { IfOk result
-        (λ a. advice_of_code a ≡ advice (master_of totals.now (map (λ v. v.items) loads.now) fixed.now) branch.now) }
+        (λ a. advice_of_code a ≡ advice (master_of totals.now (map (λ row. row.now) loads.now) fixed.now) branch.now) }
     ensures weights { IfOk result (λ a. AreMixWeights (length totals.now) a.weights.items) }
 {
     let greatest = greatest_by_totals(totals, loads, most_load, fixed, branch);
@@ -78,19 +78,19 @@ pub fn advise_by_totals(
 fn advise_under(
     alloc: Global,
     totals: &[u128],
-    loads: &[Vec<u128>],
+    loads: &[&[u128]],
     short: Option<ShortRows<'_>>,
     fixed: &[u128],
     branch: &Branch,
     greatest: u128,
 ) -> Result<Advice, AllocError>
-    requires numbers { AreMasterNumbers totals.now (map (λ v. v.items) loads.now) fixed.now }
+    requires numbers { AreMasterNumbers totals.now (map (λ row. row.now) loads.now) fixed.now }
     requires nodes { All (λ k. k < length fixed.now) (candidates_of branch.now) }
-    requires short { IfSome short (λ s. AreShortRows s.halvings (map (λ v. v.items) s.rows.now) (map (λ v. v.items) loads.now)) }
+    requires short { IfSome short (λ s. AreShortRows s.halvings (map (λ v. v.items) s.rows.now) (map (λ row. row.now) loads.now)) }
     requires greatest { greatest
-        ≡ greatest_number (master_of totals.now (map (λ v. v.items) loads.now) fixed.now) branch.now }
+        ≡ greatest_number (master_of totals.now (map (λ row. row.now) loads.now) fixed.now) branch.now }
     ensures advice { IfOk result
-        (λ a. advice_of_code a ≡ advice (master_of totals.now (map (λ v. v.items) loads.now) fixed.now) branch.now) }
+        (λ a. advice_of_code a ≡ advice (master_of totals.now (map (λ row. row.now) loads.now) fixed.now) branch.now) }
     ensures weights { IfOk result (λ a. AreMixWeights (length totals.now) a.weights.items) }
 {
     let mut rows = rows_under(alloc, totals, loads, short, fixed, branch, greatest)?;

@@ -11,13 +11,13 @@ const MOST_SCALED: u128 = 4095;
 /// The greatest among all totals, all loads of candidates and all fixed costs of candidates.
 pub(crate) fn greatest_number(
     totals: &[u128],
-    loads: &[Vec<u128>],
+    loads: &[&[u128]],
     fixed: &[u128],
     branch: &Branch,
 ) -> u128
-    requires numbers { AreMasterNumbers totals.now (map (λ v. v.items) loads.now) fixed.now }
+    requires numbers { AreMasterNumbers totals.now (map (λ row. row.now) loads.now) fixed.now }
     requires nodes { All (λ k. k < length fixed.now) (candidates_of branch.now) }
-    ensures { result ≡ greatest_number (master_of totals.now (map (λ v. v.items) loads.now) fixed.now) branch.now }
+    ensures { result ≡ greatest_number (master_of totals.now (map (λ row. row.now) loads.now) fixed.now) branch.now }
 {
     let mut most = 0;
     for total in totals {
@@ -32,16 +32,16 @@ pub(crate) fn greatest_number(
 /// The same where no load is above both its cut's total and this number, so that the loads are not looked at.
 pub(crate) fn greatest_by_totals(
     totals: &[u128],
-    loads: &[Vec<u128>],
+    loads: &[&[u128]],
     most_load: u128,
     fixed: &[u128],
     branch: &Branch,
 ) -> u128
-    requires numbers { AreMasterNumbers totals.now (map (λ v. v.items) loads.now) fixed.now }
+    requires numbers { AreMasterNumbers totals.now (map (λ row. row.now) loads.now) fixed.now }
     requires nodes { All (λ k. k < length fixed.now) (candidates_of branch.now) }
-    requires within { AreWithinTotals most_load totals.now (map (λ v. v.items) loads.now) }
-    requires reached { most_load ≤ greatest_number (master_of totals.now (map (λ v. v.items) loads.now) fixed.now) branch.now }
-    ensures { result ≡ greatest_number (master_of totals.now (map (λ v. v.items) loads.now) fixed.now) branch.now }
+    requires within { AreWithinTotals most_load totals.now (map (λ row. row.now) loads.now) }
+    requires reached { most_load ≤ greatest_number (master_of totals.now (map (λ row. row.now) loads.now) fixed.now) branch.now }
+    ensures { result ≡ greatest_number (master_of totals.now (map (λ row. row.now) loads.now) fixed.now) branch.now }
 {
     let mut most = 0;
     for total in totals {

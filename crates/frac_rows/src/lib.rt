@@ -1,4 +1,4 @@
-//! Exact pivots on the rows of a linear program in whole numbers.
+//! Exact, fraction-free simplex: tableaux of whole numbers, pivots, and runs by Bland's rule.
 //!
 //! [`Rows`] is a table: a row for each constraint and last the objective row; a column for each variable, then for the
 //! slack of each constraint, then for the objective's value v, and last the right side. Each constraint row has a basic

@@ -1,10 +1,10 @@
-//! The program `hub`: the words and files of the machine, handed to `run`.
+//! The program `hub`: passes arguments, disk and standard streams to `run`.
 #![tactic(auto)]
 
 ghost use Rattle.std.specs.Prelude.{◌≡◌, ◌⊎◌};
 ghost use Rattle.std.specs.Io.KnownBytes.{Appends};
 ghost use Rattle.hub_io.specs.Outside.{Rose};
-ghost use Rattle.hub_top.specs.declared.status.Status.TheVariants.{Memory, Write};
+ghost use Rattle.hub_checks.specs.declared.status.Status.TheVariants.{Memory, Write};
 ghost use Rattle.hub_top.specs.Texts.{memory_text};
 
 use hub_io::{OpenGate, Sink};

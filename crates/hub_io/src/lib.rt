@@ -1,5 +1,4 @@
-//! The outside of the program, as objects that are passed in: where files are read, where texts are put,
-//! and where workers pass.
+//! The outside as traits: files that are read, streams that are written, gates that workers pass.
 //!
 //! - [`Shelf`] gives the bytes of named files, and [`Sink`] takes bytes. Either may tell in contracts what
 //!   it holds or took, and each counts its faults: so a contract can say what was read and what was taken,

@@ -1,9 +1,14 @@
-//! Made-up instances for tests and demonstrations: a seed and a number of nodes give the text of an instance file in
-//! the layout `ap`, with fixed costs at its end.
+//! Made-up instances: a seed and a size give the text of a file in the layout `ap`, or the instance itself; and the five
+//! lines of `demo`.
 //!
 //! [`instance_text`] writes the text. What each of its lines says is defined in `specs/Texts.antt`, and the numbers in
 //! `specs/Numbers.antt`. [`made_is_read`] is the law that makes the text useful: for every seed and size in range it is
 //! read as an instance, never as a fault.
+//!
+//! For a demonstration [`made_instance`] is that instance, read from the text by the reader of instance files as any other
+//! is, and [`put_demo`] puts the five lines that tell what a search of it found: the size, the cost, the bound, the hubs and
+//! the nodes of the search (`specs/DemoTexts.antt`). In the order of reading: `numbers`, `rows`, `lines`, `making`,
+//! `demo_lines`.
 #![tactic(auto)]
 
 mod demo_lines;

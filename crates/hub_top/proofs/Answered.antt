@@ -19,15 +19,22 @@ use Rattle.closing_search.specs.Gaps.{IsWithinGap}
 use Rattle.closing_search.proofs.Gaps.{no_gap}
 use Rattle.hub_words.specs.Requests.{Source, SearchRule, How, follow, again, freely, older_named, gap_of, Solving, Making, Search, Request, instance}
 use Rattle.hub_words.specs.Requests.{solve, check, report, make, demo}
-use Rattle.hub_top.specs.declared.status.Status.{Status}
-use Rattle.hub_top.specs.declared.status.Status.TheVariants.{Done, Stopped, No, Usage, Instance, Memory, Read, Write, Lacking}
-use Rattle.hub_top.specs.Commands.{HoldsInstance, cold, warm, Method, method_of, SpellsBy, demo_method, IsEnoughFor, Solves, Stops, SolvesBy, StopsBy, SolvesInstance, StopsInstance, FromOlder, LacksNetwork, IsSaid, HoldsOlder, MayBegin, JudgesFile, ReportsFile}
-use Rattle.hub_top.specs.Answers.{Answers, TellsOlder, Demonstrates, found_status, rule_status, solve_status, older_status, verdict_status, report_status}
-use Rattle.hub_top.specs.Texts.{older_line}
-use Rattle.hub_top.proofs.OneReading.{same_bytes, one_instance}
+use Rattle.hub_checks.specs.declared.status.Status.{Status}
+use Rattle.hub_checks.specs.declared.status.Status.TheVariants.{Done, Stopped, No, Usage, Instance, Memory, Read, Write, Lacking}
+use Rattle.hub_sources.specs.Sources.{HoldsInstance}
+use Rattle.hub_searches.specs.Methods.{cold, warm, Method, method_of, demo_method}
+use Rattle.hub_searches.specs.Searches.{SpellsBy, IsEnoughFor, Solves, Stops}
+use Rattle.hub_searches.specs.Instances.{SolvesBy, StopsBy, SolvesInstance, StopsInstance, LacksNetwork}
+use Rattle.hub_searches.specs.Older.{FromOlder, IsSaid, HoldsOlder, MayBegin}
+use Rattle.hub_checks.specs.Checks.{JudgesFile, ReportsFile}
+use Rattle.hub_top.specs.Answers.{Answers, TellsOlder}
+use Rattle.hub_searches.specs.Statuses.{Demonstrates, found_status, rule_status, solve_status, older_status}
+use Rattle.hub_checks.specs.Statuses.{verdict_status, report_status}
+use Rattle.hub_checks.specs.Lines.{older_line}
+use Rattle.hub_sources.proofs.OneReading.{same_bytes, one_instance}
 use Rattle.hub_top.proofs.OneTexts.{only_verdict}
-use Rattle.hub_top.proofs.OlderCertificates.{no_line_where_begun, begun_may}
-use Rattle.hub_top.proofs.Networks.{plan_serves}
+use Rattle.hub_searches.proofs.OlderCertificates.{no_line_where_begun, begun_may}
+use Rattle.hub_searches.proofs.Networks.{plan_serves}
 
 -- ---- what solves
 

@@ -6,14 +6,18 @@ use Rattle.hub_spec.specs.Lacking.{lacking}
 use Rattle.cert_spec.proofs.OlderTexts.{certified_serves_lem}
 use Rattle.file_spec.specs.Faults.{Fault}
 use Rattle.hub_make.specs.Contents.{made_problem}
-use Rattle.hub_top.specs.declared.status.Status.{Status}
-use Rattle.hub_top.specs.declared.status.Status.TheVariants.{Done, Stopped, No, Usage, Instance, Lacking}
+use Rattle.hub_checks.specs.declared.status.Status.{Status}
+use Rattle.hub_checks.specs.declared.status.Status.TheVariants.{Done, Stopped, No, Usage, Instance, Lacking}
 use Rattle.hub_words.specs.Requests.{Source, Solving, Request, solve, check, report, make, demo, instance}
-use Rattle.hub_top.specs.Commands.{WhereTold, Blame, HasBlame, HoldsInstance, LacksNetwork, cold, method_of, demo_method}
-use Rattle.hub_top.specs.Answers.{Answers, verdict_status, report_status, rule_status, solve_status, older_status}
+use Rattle.hub_sources.specs.Sources.{WhereTold, Blame, HasBlame, HoldsInstance}
+use Rattle.hub_searches.specs.Instances.{LacksNetwork}
+use Rattle.hub_searches.specs.Methods.{cold, method_of, demo_method}
+use Rattle.hub_top.specs.Answers.{Answers}
+use Rattle.hub_checks.specs.Statuses.{verdict_status, report_status}
+use Rattle.hub_searches.specs.Statuses.{rule_status, solve_status, older_status}
 use Rattle.hub_top.specs.Outcomes.{Outcome, answered, usage, faulty, no_network, memory, read, status_of, to_solve, ShelfFails, Quiet, MayComeTo, Written, whole, out_cut, err_cut}
 use Rattle.hub_top.specs.Completeness.{Completeness, EndsAs, EndsWith}
-use Rattle.hub_top.proofs.OneReading.{no_blame}
+use Rattle.hub_sources.proofs.OneReading.{no_blame}
 use Rattle.hub_top.proofs.Answered.{answered_instance, solve_status_is, lacking_status, lacks_none, begun_status, enough_status, refused_status_is, lacking_answers, resolve_status_is, serves_held, check_status, report_status_is, make_status, demo_status, demo_enough}
 
 -- an ending that is written whole has its status, and a sink that fails counts it

@@ -5,17 +5,21 @@ use Rattle.hub_io.specs.Outside.{Files}
 use Rattle.hub_spec.specs.Problem.{Problem}
 use Rattle.cert_spec.specs.Verdicts.{Verdict, optimal, bounds, misread, too_long, certificate_limit}
 use Rattle.cert_spec.specs.Verdicts as verdicts
-use Rattle.hub_top.specs.declared.status.Status.{Status}
-use Rattle.hub_top.specs.declared.status.Status.TheVariants.{Done, Stopped, Memory}
+use Rattle.hub_checks.specs.declared.status.Status.{Status}
+use Rattle.hub_checks.specs.declared.status.Status.TheVariants.{Done, Stopped, Memory}
 use Rattle.hub_words.specs.Requests.{Source, Solving, Request, solve, check}
-use Rattle.hub_top.specs.Texts.{optimal_line, verdict_text}
-use Rattle.hub_top.specs.Commands.{HoldsInstance, SolvesInstance, StopsInstance, JudgesFile}
+use Rattle.hub_checks.specs.Lines.{optimal_line, verdict_text}
+use Rattle.hub_sources.specs.Sources.{HoldsInstance}
+use Rattle.hub_searches.specs.Instances.{SolvesInstance, StopsInstance}
+use Rattle.hub_checks.specs.Checks.{JudgesFile}
 use Rattle.cert_checker.specs.Shows.{ProvesOptimal}
-use Rattle.hub_top.specs.Answers.{verdict_status, Answers}
+use Rattle.hub_checks.specs.Statuses.{verdict_status}
+use Rattle.hub_top.specs.Answers.{Answers}
 use Rattle.hub_top.specs.Meanings.{Answered, Means}
-use Rattle.hub_top.specs.Headline.{IsSameInstance, Headline}
+use Rattle.hub_sources.specs.Sources.{IsSameInstance}
+use Rattle.hub_top.specs.Headline.{Headline}
 use Rattle.hub_top.specs.Completeness.{Completeness}
-use Rattle.hub_top.proofs.OneReading.{held_again}
+use Rattle.hub_sources.proofs.OneReading.{held_again}
 use Rattle.hub_top.proofs.OneTexts.{solving_why, stopping_why}
 
 -- the answer to the request that was asked for

@@ -14,8 +14,10 @@ use Rattle.search_progress.specs.Kinds.{core}
 use Rattle.branch_tree.specs.Findings.{found_by}
 use Rattle.hub_words.specs.Requests.{How, follow, again, freely, node_by_node, by_core_cuts, by_rounds, Search}
 use Rattle.hub_io.specs.Outside.{Files}
-use Rattle.hub_top.specs.Commands.{Course, cold, warm, Method, method_of, free_method, SpellsFound, SpellsBy, rule_certificate}
-use Rattle.hub_top.specs.Commands.{Finds, Solves, Stops, Optimizes, Bounds, SolvesBy, StopsBy}
+use Rattle.hub_searches.specs.Methods.{Course, cold, warm, Method, method_of, free_method}
+use Rattle.hub_searches.specs.Searches.{SpellsFound, SpellsBy, rule_certificate}
+use Rattle.hub_searches.specs.Searches.{Finds, Solves, Stops, Optimizes, Bounds}
+use Rattle.hub_searches.specs.Instances.{SolvesBy, StopsBy}
 use Rattle.search_spec.specs.Again.{start_of}
 use Rattle.hub_top.specs.Theorems.{IsOneVerdict, Ends, solved_cost}
 

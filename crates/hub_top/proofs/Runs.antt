@@ -2,7 +2,7 @@
 use Rattle.std.proofs.Common.{◌≡◌, ℕ, List, Option, ◌⊎◌, ⊎_elim, sym, subst}
 use Rattle.hub_io.specs.Outside.{Files, Rose}
 use Rattle.hub_words.specs.Requests.{Request}
-use Rattle.hub_top.specs.declared.status.Status.{Status}
+use Rattle.hub_checks.specs.declared.status.Status.{Status}
 use Rattle.hub_top.specs.Outcomes.{Outcome, memory, MayComeTo, ShelfFails, Quiet, Written}
 use Rattle.hub_top.specs.Meanings.{Means}
 use Rattle.hub_top.specs.Completeness.{Completeness}

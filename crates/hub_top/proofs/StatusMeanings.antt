@@ -5,9 +5,10 @@ use Rattle.hub_io.specs.Outside.{Files, Rose}
 use Rattle.cert_spec.specs.Verdicts.{Verdict, optimal, bounds, misread, too_long}
 use Rattle.cert_spec.specs.Verdicts as verdicts
 use Rattle.hub_words.specs.Requests.{Source, Solving, Making, Search, Request, solve, check, report, make, demo}
-use Rattle.hub_top.specs.declared.status.Status.{Status}
-use Rattle.hub_top.specs.declared.status.Status.TheVariants.{Done, Stopped, No, Usage, Instance, Memory, Read, Write, Lacking}
-use Rattle.hub_top.specs.Answers.{Answers, verdict_status}
+use Rattle.hub_checks.specs.declared.status.Status.{Status}
+use Rattle.hub_checks.specs.declared.status.Status.TheVariants.{Done, Stopped, No, Usage, Instance, Memory, Read, Write, Lacking}
+use Rattle.hub_top.specs.Answers.{Answers}
+use Rattle.hub_checks.specs.Statuses.{verdict_status}
 use Rattle.hub_top.specs.Outcomes.{Outcome, answered, usage, faulty, no_network, memory, read, status_of, out_text, MayComeTo, Written, whole, out_cut, err_cut}
 use Rattle.hub_top.specs.Meanings.{Means}
 use Rattle.hub_top.proofs.Answered.{solve_cases}

@@ -3,9 +3,9 @@ use Rattle.std.proofs.Common.{◌≡◌, ℕ, List, [], Option, Ok, inl, inr, re
 use Rattle.std.proofs.KnownBytes.{Appends-nil}
 use Rattle.hub_io.specs.Outside.{Puts}
 use Rattle.hub_io.specs.declared.shelf.Failed.{Failed}
-use Rattle.hub_top.specs.declared.status.Status.{Status}
-use Rattle.hub_top.specs.declared.halts.Halt.{Halt}
-use Rattle.hub_top.specs.declared.halts.Halt.TheVariants as halts
+use Rattle.hub_checks.specs.declared.status.Status.{Status}
+use Rattle.hub_sources.specs.declared.halts.Halt.{Halt}
+use Rattle.hub_sources.specs.declared.halts.Halt.TheVariants as halts
 use Rattle.hub_top.specs.Views.{halted}
 use Rattle.hub_top.specs.Outcomes.{Outcome, status_of, out_text, err_text, IsTold, Written, whole, out_cut, err_cut}
 

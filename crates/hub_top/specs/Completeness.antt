@@ -6,13 +6,16 @@ use Rattle.hub_spec.specs.Lacking.{lacking}
 use Rattle.cert_spec.specs.Verdicts.{Verdict, Why, Certifies, Older, IsOlder}
 use Rattle.file_spec.specs.Faults.{Fault}
 use Rattle.hub_make.specs.Contents.{made_problem}
-use Rattle.hub_top.specs.declared.status.Status.{Status}
-use Rattle.hub_top.specs.declared.status.Status.TheVariants.{Done, Stopped, No, Usage, Instance, Memory, Lacking}
-use Rattle.hub_words.specs.Requests.{Source, SearchRule, How, follow, again, older_named, gap_of, Solving, Making, Search, Request, instance}
-use Rattle.hub_words.specs.Requests.{solve, check, report, make, demo}
-use Rattle.hub_top.specs.Commands.{Blame, HasBlame, HoldsInstance, cold, method_of, demo_method, IsEnoughFor, IsSaid, MayBegin}
-use Rattle.hub_top.specs.Texts.{older_line}
-use Rattle.hub_top.specs.Answers.{verdict_status, report_status, rule_status, solve_status, older_status}
+use Rattle.hub_checks.specs.declared.status.Status.{Status}
+use Rattle.hub_checks.specs.declared.status.Status.TheVariants.{Done, Stopped, No, Usage, Instance, Memory, Lacking}
+use Rattle.hub_words.specs.Requests.{Source, SearchRule, follow, again, older_named, gap_of, Solving, Making, Search, Request, instance, solve, check, report, make, demo}
+use Rattle.hub_sources.specs.Sources.{Blame, HasBlame, HoldsInstance}
+use Rattle.hub_searches.specs.Methods.{cold, method_of, demo_method}
+use Rattle.hub_searches.specs.Searches.{IsEnoughFor}
+use Rattle.hub_searches.specs.Older.{IsSaid, MayBegin}
+use Rattle.hub_checks.specs.Lines.{older_line}
+use Rattle.hub_checks.specs.Statuses.{verdict_status, report_status}
+use Rattle.hub_searches.specs.Statuses.{rule_status, solve_status, older_status}
 
 -- the run ended with a status of which this holds, or for want of memory
 abbrev pub EndsAs : (Status → Type 0) → Status → Type 0

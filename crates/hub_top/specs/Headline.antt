@@ -1,29 +1,16 @@
 -- The headline: what a run says that ends with status 0.
-use Rattle.std.specs.Prelude.{◌≡◌, ℕ, ◌≤◌, List, length, Option, Some, None, ◌⊎◌}
+use Rattle.std.specs.Prelude.{◌≡◌, ℕ, ◌≤◌, List, length, Option, Some, ◌⊎◌}
 use Rattle.std.specs.Io.KnownBytes.{Appends}
 use Rattle.hub_io.specs.Outside.{Files}
 use Rattle.hub_spec.specs.Problem.{Problem}
 use Rattle.cert_spec.specs.Verdicts.{certificate_limit}
-use Rattle.hub_top.specs.declared.status.Status.{Status}
-use Rattle.hub_top.specs.declared.status.Status.TheVariants.{Done, Stopped, Memory}
+use Rattle.hub_checks.specs.declared.status.Status.{Status}
+use Rattle.hub_checks.specs.declared.status.Status.TheVariants.{Done, Stopped, Memory}
 use Rattle.hub_words.specs.Requests.{Source, Solving, Request, solve, check}
-use Rattle.hub_top.specs.Texts.{optimal_line}
-use Rattle.hub_top.specs.Commands.{HoldsInstance, SolvesInstance, StopsInstance}
+use Rattle.hub_checks.specs.Lines.{optimal_line}
+use Rattle.hub_sources.specs.Sources.{HoldsInstance, IsSameInstance}
+use Rattle.hub_searches.specs.Instances.{SolvesInstance, StopsInstance}
 use Rattle.cert_checker.specs.Shows.{ProvesOptimal}
-
--- the costs files named hold the same bytes, or none is named
-abbrev pub SameCosts : Files → Option (List ℕ) → Files → Option (List ℕ) → Type 0
-SameCosts before None now None = Unit {0}
-SameCosts before None now (Some name) = ⊥
-SameCosts before (Some name) now None = ⊥
-SameCosts before (Some old) now (Some new) = now new ≡ before old
-
--- the same instance is named again: the same layout, options and bytes, whatever the names
-pub record IsSameInstance (before : Files) (s : Source) (now : Files) (t : Source) : Type 0 where
-  pub layout : t.layout ≡ s.layout
-  pub options : t.options ≡ s.options
-  pub file : now t.file ≡ before s.file
-  pub costs : SameCosts before s.costs now t.costs
 
 -- the headline, for what the words ask for, the files held, what out took, whether no fault rose, and the status
 pub record Headline (asked : Option Request) (held : Option Files) (old new : Option (List ℕ)) (quiet : Type 0) (status : Status) : Type 0 where

@@ -3,10 +3,11 @@ use Rattle.std.specs.Prelude.{◌≡◌, ℕ, List, [], Option, Some, None}
 use Rattle.std.specs.Io.KnownBytes.{Appends}
 use Rattle.hub_io.specs.Outside.{Files}
 use Rattle.file_spec.specs.Faults.{Fault}
-use Rattle.hub_top.specs.declared.status.Status.{Status}
-use Rattle.hub_top.specs.declared.status.Status.TheVariants.{Done, Stopped, No, Usage, Instance, Memory, Read, Write, Lacking}
+use Rattle.hub_checks.specs.declared.status.Status.{Status}
+use Rattle.hub_checks.specs.declared.status.Status.TheVariants.{Done, Stopped, No, Usage, Instance, Memory, Read, Write, Lacking}
 use Rattle.hub_words.specs.Requests.{Source, Request, instance}
-use Rattle.hub_top.specs.Commands.{Blame, HasBlame, WhereTold, LacksNetwork}
+use Rattle.hub_sources.specs.Sources.{Blame, HasBlame, WhereTold}
+use Rattle.hub_searches.specs.Instances.{LacksNetwork}
 use Rattle.hub_top.specs.Answers.{Answers}
 use Rattle.hub_top.specs.Outcomes.{to_solve}
 

@@ -1,14 +1,12 @@
 -- The files that the words name.
 use Rattle.std.specs.Prelude.{◌≡◌, ℕ, List, Option, Some, None, ◌⊎◌}
-use Rattle.hub_words.specs.Requests.{Source, Request, solve, check, report, make, demo, older_named, instance}
-
--- a file of the instance has this name
-abbrev pub IsFileOf : Source → List ℕ → Type 0
-IsFileOf s name = (name ≡ s.file) ⊎ (s.costs ≡ Some name)
+use Rattle.hub_words.specs.Requests.{Request, solve, check, report, make, demo, instance}
+use Rattle.hub_sources.specs.Named.{IsFileOf}
+use Rattle.hub_searches.specs.Older.{IsNamedBy}
 
 -- the request names the file
 abbrev pub Names : Request → List ℕ → Type 0
-Names (solve s) name = IsFileOf s.source name ⊎ (older_named s.how ≡ Some name)
+Names (solve s) name = IsNamedBy s name
 Names (check s certificate) name = IsFileOf s name ⊎ (name ≡ certificate)
 Names (report s certificate) name = IsFileOf s name ⊎ (name ≡ certificate)
 Names (make making) name = ⊥

@@ -1,14 +1,17 @@
 -- What a run may come to before anything is written, and what is written then.
-use Rattle.std.specs.Prelude.{◌≡◌, ℕ, ◌≤◌, List, [], Option, Some, None, Ok, Err, ◌⊎◌}
+use Rattle.std.specs.Prelude.{◌≡◌, ℕ, List, [], Option, Some, None, Ok, Err, ◌⊎◌}
 use Rattle.hub_io.specs.Outside.{Files, Rose, Puts}
 use Rattle.hub_io.specs.declared.Failed.{Failed}
 use Rattle.file_spec.specs.Faults.{Fault}
-use Rattle.hub_top.specs.declared.status.Status.{Status}
-use Rattle.hub_top.specs.declared.status.Status.TheVariants.{Usage, Instance, Memory, Read, Write, Lacking}
+use Rattle.hub_checks.specs.declared.status.Status.{Status}
+use Rattle.hub_checks.specs.declared.status.Status.TheVariants.{Usage, Instance, Memory, Read, Write, Lacking}
 use Rattle.hub_words.specs.Requests.{Source, Request, solve, instance}
 use Rattle.hub_top.specs.Texts.{usage_text, fault_text, no_network_text, memory_text, read_text}
-use Rattle.hub_top.specs.Commands.{Blame, HasBlame, WhereTold, Lacks, LacksNetwork}
+use Rattle.hub_sources.specs.Sources.{Blame, HasBlame, WhereTold}
+use Rattle.hub_top.specs.Commands.{Lacks}
+use Rattle.hub_searches.specs.Instances.{LacksNetwork}
 use Rattle.hub_top.specs.Answers.{Answers}
+use Rattle.hub_sources.specs.Shelves.{FailsFor}
 
 -- the instance that a request asks to solve, if it names one
 abbrev pub to_solve : Request → Option Source
@@ -49,17 +52,6 @@ err_text (no_network commodity) = no_network_text commodity
 err_text memory = memory_text
 err_text read = read_text
 err_text outcome = []
-
--- the shelf failed in this call; and a sound one that tells lacks what is said of its files
-pub record FailsFor {S : Type 0} (held : S → Option Files) (faults : S → ℕ) (sound : S → Type 0) (old new : S) (lacks : Files → Type 0) : Type 0 where
-  pub rose : Rose (faults old) (faults new)
-  pub lacking : sound old → WhereTold (held old) lacks
-
--- after a call the shelf holds the same, its faults never fell, and it is sound where it was
-pub record StaysShelf {S : Type 0} (held : S → Option Files) (faults : S → ℕ) (sound : S → Type 0) (old new : S) : Type 0 where
-  pub same : held new ≡ held old
-  pub later : faults old ≤ faults new
-  pub sound_still : sound old → sound new
 
 -- the request names an instance, and the shelf failed, and a sound one that tells lacks a file that the request names, when its turn
 -- comes

@@ -2,10 +2,11 @@
 use Rattle.std.specs.Prelude.{◌≡◌, ℕ, ◌≤◌, List, length, Option, ◌⊎◌}
 use Rattle.hub_spec.specs.Problem.{Problem, IsProblem}
 use Rattle.cert_spec.specs.Verdicts.{Verdict, optimal, bounds, Why, certificate_limit}
-use Rattle.file_spec.specs.Faults.{Fault}
 use Rattle.hub_io.specs.Outside.{Files}
-use Rattle.hub_words.specs.Requests.{Source, How, follow, again, freely, Search}
-use Rattle.hub_top.specs.Commands.{Method, SpellsBy, Solves, Stops, Optimizes, Bounds, SolvesBy, Blame, HasBlame}
+use Rattle.hub_words.specs.Requests.{How, follow, again, freely, Search}
+use Rattle.hub_searches.specs.Methods.{Method}
+use Rattle.hub_searches.specs.Searches.{SpellsBy, Solves, Stops, Optimizes, Bounds}
+use Rattle.hub_searches.specs.Instances.{SolvesBy}
 
 -- the verdict is the one on the text, and no other
 abbrev pub IsOneVerdict : Problem → List ℕ → Verdict → Type 0
@@ -49,8 +50,3 @@ solved_cost held p (freely gap from) q text h = h.0.certificate.cost
 abbrev pub OneCost : Type 0
 OneCost = (held other : Option Files) (p : Problem) (how later : How) (q r : Search) (text too : List ℕ) (solved : SolvesBy held p how q text)
     (solved_again : SolvesBy other p later r too) → IsProblem p → solved_cost other p later r too solved_again ≡ solved_cost held p how q text solved
-
--- two faults that the same files have are one, told of one file
-abbrev pub OneBlame : Type 0
-OneBlame = (files : Files) (s : Source) (blame other : Blame) (fault second : Fault)
-    → HasBlame files s blame fault → HasBlame files s other second → (other ≡ blame) × (second ≡ fault)

@@ -1,10 +1,9 @@
 -- What a run of the code came to, as contracts see it.
-use Rattle.std.specs.Prelude.{ℕ, List, length, nat_eq, if◌then◌else◌, Result, Ok, Err}
+use Rattle.std.specs.Prelude.{ℕ, List, length, Result, Ok, Err}
 use Rattle.cert_spec.specs.Stated.{IsStatedOf}
 use Rattle.hub_model.specs.Faults.{fault_of}
 use Rattle.hub_words.specs.Requests.{IsSearch}
 use Rattle.hub_words.specs.Views.{search_seen}
-use Rattle.cut_pool.specs.declared.found.Found.{Found as Finding}
 use Rattle.cut_pool.specs.Findings.{IsProved}
 use Rattle.cert_scan.specs.Versions.{version_number}
 use Rattle.dual_lender.specs.Lenders.{IsLenderFor}
@@ -12,30 +11,27 @@ use Rattle.proof_text.specs.Texts.{found_text}
 use Rattle.network_report.specs.Texts.{report_text}
 use Rattle.hub_make.specs.DemoTexts.{demo_text}
 use Rattle.cert_checker.specs.Shows.{verdict_of}
-use Rattle.hub_top.specs.declared.status.Status.{Status}
-use Rattle.hub_top.specs.declared.status.Status.TheVariants.{Done, Stopped}
-use Rattle.hub_top.specs.declared.halts.Halt.{Halt}
-use Rattle.hub_top.specs.declared.halts.Halt.TheVariants as halts
+use Rattle.hub_checks.specs.declared.status.Status.{Status}
+use Rattle.hub_checks.specs.declared.status.Status.TheVariants.{Done}
+use Rattle.hub_sources.specs.declared.halts.Halt.{Halt}
 use Rattle.hub_top.specs.declared.answers.Answer.{Answer}
 use Rattle.hub_top.specs.declared.answers.Answer.TheVariants.{Judged, Reported, Made, Demonstrated}
 use Rattle.hub_top.specs.declared.outcomes.Settled.{Settled}
 use Rattle.hub_top.specs.declared.outcomes.Settled.TheVariants.{Answered, Found, NoNetwork, Usage, Halted}
 use Rattle.hub_top.specs.declared.outcomes.Intended.{Intended}
-use Rattle.hub_top.specs.declared.outcomes.Intended.TheVariants as intended
-use Rattle.hub_top.specs.Texts.{verdict_text}
-use Rattle.hub_top.specs.Answers.{verdict_status}
+use Rattle.hub_checks.specs.Lines.{verdict_text}
+use Rattle.hub_checks.specs.Statuses.{verdict_status}
 use Rattle.hub_top.specs.Outcomes.{Outcome, answered, usage, faulty, no_network, memory, read}
-use Rattle.hub_top.specs.Blames.{blame_of}
+use Rattle.hub_sources.specs.Blames.{blame_of}
+use Rattle.hub_searches.specs.Statuses.{finding_status}
+use Rattle.hub_sources.specs.declared.halts.Halt.TheVariants as halts
+use Rattle.hub_top.specs.declared.outcomes.Intended.TheVariants as intended
 
 -- why there is no answer
 abbrev pub halted : Halt → Outcome
 halted (halts.Fault blamed fault) = faulty (blame_of blamed) (fault_of fault)
 halted halts.Memory = memory
 halted halts.Read = read
-
--- the status of what a search found
-abbrev pub finding_status : Finding → Status
-finding_status found = if nat_eq found.bound found.cost then Done else Stopped
 
 -- the status of an answer
 abbrev pub answer_status : Answer → Status

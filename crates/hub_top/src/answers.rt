@@ -2,17 +2,18 @@
 
 ghost use Rattle.std.specs.Prelude.{◌≡◌};
 ghost use Rattle.hub_io.specs.Outside.{Puts};
-ghost use Rattle.hub_top.specs.Views.{IsWritable, answer_status, answer_text, finding_status};
+ghost use Rattle.hub_top.specs.Views.{IsWritable, answer_status, answer_text};
+ghost use Rattle.hub_searches.specs.Statuses.{finding_status};
 ghost use Rattle.hub_top.specs.declared.answers.Answer.TheVariants.{Demonstrated};
 
 use crate::Status;
-use crate::verdict_lines::{put_ending, status_of_ending};
 use cert_checker::Ending;
 use cert_format::Certificate;
-use hub_make::put_demo;
-use hub_io::{Failed, Sink};
-use hub_model::Instance;
 use cut_pool::Found;
+use hub_checks::{put_ending, status_of_ending};
+use hub_io::{Failed, Sink};
+use hub_make::put_demo;
+use hub_model::Instance;
 use network_report::report;
 
 /// What a command answers, before it is written.

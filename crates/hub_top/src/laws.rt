@@ -1,14 +1,7 @@
 //! What a text that `solve` or `optimize` writes is to a check, that a search has one text, and that files have one fault.
 
-ghost use Rattle.hub_top.specs.Theorems.{
-  BoundedIsBounds,
-  OneBlame,
-  OneCost,
-  OneText,
-  OptimizedIsOptimal,
-  SolvedIsOptimal,
-  StoppedIsBounds,
-};
+ghost use Rattle.hub_top.specs.Theorems.{BoundedIsBounds, OneCost, OneText, OptimizedIsOptimal, SolvedIsOptimal, StoppedIsBounds};
+ghost use Rattle.hub_sources.specs.Theorems.{OneBlame};
 
 /// The verdict on a text that solves an instance, and has at most 2^30 bytes, is optimal with its cost, and no other.
 pub fn solved_is_optimal()
@@ -37,8 +30,8 @@ pub fn one_text()
     ensures { OneText }
 {}
 
-/// Two texts that solve one instance print one cost: `solve` by each rule, with core cuts or without, `resolve` and `optimize` come
-/// to the same.
+/// Two texts that solve one instance print one cost: `solve` by each rule, with Pareto-optimal cuts or without, `resolve`
+/// and `optimize` come to the same.
 pub fn one_cost()
     ensures { OneCost }
 {}

@@ -1,34 +1,20 @@
-//! The top call of the product: words, files and sinks to a status.
+//! The top call `run`: arguments, files and outputs to a status. It carries the headline as a clause.
 //!
-//! [`run`] carries the headline as its clauses. `specs/` has their words in the order of reading: `Commands` (what a
-//! command does with its files), `Texts` (what is printed), `Answers` (what each command says with each status), `Outcomes`
-//! (what a run may come to and what is written then), `Meanings` (what each status says), `Completeness` (how it ends
-//! where nothing fails), `Headline`, `Theorems`. What the words ask for is defined in the crate `hub_words`, and what a
-//! search finds in `search_spec` and `branch_tree`, which cuts it separates in `separators` and core cuts in `core_spec` and
-//! `core_cuts`, and what is found by rounds in `rounds_spec` and `node_rounds`.
+//! [`run`] carries the headline. `specs/` in the order of reading: `Commands` (which file is missing), `Named` (which files
+//! are named), `Texts` (what is printed), `Answers` (what each command says with each status), `Outcomes` (what a run may
+//! come to), `Meanings` (what each status says), `Completeness` (which status comes where nothing fails), `Headline`,
+//! `Theorems`. The commands themselves are in `hub_checks` and `hub_searches`.
 #![tactic(auto)]
 
 mod answers;
-mod checking;
-mod closing;
-mod costs;
-mod files;
-mod halts;
-mod instances;
 mod laws;
 mod outcomes;
-mod preparing;
-mod reporting;
-mod searching;
-mod solving;
-mod status;
 mod texts;
 mod top;
-mod verdict_lines;
 
+pub use hub_checks::Status;
 pub use laws::{
     bounded_is_bounds, one_blame, one_cost, one_text, optimized_is_optimal, solved_is_optimal,
     stopped_is_bounds,
 };
-pub use status::Status;
 pub use top::run;

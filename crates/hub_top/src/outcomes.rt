@@ -10,18 +10,19 @@ ghost use Rattle.hub_words.specs.Requests.{IsSearch};
 ghost use Rattle.hub_words.specs.Views.{search_seen};
 ghost use Rattle.hub_top.specs.Texts.{no_network_text, usage_text};
 ghost use Rattle.hub_top.specs.Outcomes.{IsTold, Written, err_text, memory, status_of};
-ghost use Rattle.hub_top.specs.Views.{CanBeWritten, IsReady, IsWritable, answer_status, answer_text, came_to, finding_status, halted, outcome};
-ghost use Rattle.hub_top.specs.declared.status.Status.TheVariants.{Lacking, Usage};
+ghost use Rattle.hub_top.specs.Views.{CanBeWritten, IsReady, IsWritable, answer_status, answer_text, came_to, halted, outcome};
+ghost use Rattle.hub_searches.specs.Statuses.{finding_status};
+ghost use Rattle.hub_checks.specs.declared.status.Status.TheVariants.{Lacking, Usage};
 
 use crate::Status;
 use crate::answers::{Answer, put_answer, status_of_answer, status_of_finding};
-use crate::halts::Halt;
 use crate::texts::{put_fault, put_memory, put_no_network, put_read, put_usage};
+use cut_pool::Found;
 use dual_lender::DualLender;
 use hub_io::{Failed, Sink};
 use hub_model::Instance;
+use hub_sources::Halt;
 use hub_words::Search;
-use cut_pool::Found;
 use proof_text::{Finding, Workers, write_found};
 use std::alloc::Global;
 use std::thread::Threads;
@@ -33,7 +34,7 @@ pub enum Settled {
     Answered(Answer),
     /// What this search found for the instance, whose certificate is wanted.
     Found(Instance, Found, Search),
-    /// All candidates together lack the commodity from `i` to `j`.
+    /// All candidates together are infeasible for the commodity from `i` to `j`.
     NoNetwork { i: u32, j: u32 },
     /// The words are no command.
     Usage,
@@ -48,7 +49,7 @@ pub enum Intended<'a> {
     Answered(&'a Answer),
     /// The certificate of what this search found for the instance, with room to make its duals in.
     Found(&'a Instance, &'a Found, Search, DualLender<'a>),
-    /// All candidates together lack the commodity from `i` to `j`.
+    /// All candidates together are infeasible for the commodity from `i` to `j`.
     NoNetwork { i: u32, j: u32 },
     /// The words are no command.
     Usage,

@@ -6,27 +6,20 @@ ghost use Rattle.hub_model.specs.Amounts.{natural};
 ghost use Rattle.hub_model.specs.Faults.{fault_of, missing_of};
 ghost use Rattle.file_spec.specs.Faults.{missing_pair, bad_size, repeated, too_costly};
 ghost use Rattle.hub_top.specs.Texts.{usage_text, memory_text, read_text, no_network_text, blame_words, pair_words, fault_line, fault_text};
-ghost use Rattle.hub_top.specs.Blames.{blame_of};
+ghost use Rattle.hub_sources.specs.Blames.{blame_of};
 
 use dec_text::{Piece, put_line};
 use hub_io::{Failed, Sink};
 use hub_model::{InstanceFault, Wanted, unsigned};
+use hub_sources::Blamed;
 
-/// The file that is blamed for a fault of an instance.
-#[derive(Clone, Copy, Debug, PartialEq, Eq)]
-pub enum Blamed {
-    Instance,
-    Costs,
-}
-
-impl Blamed {
-    fn words(&self) -> &'static [u8]
-        ensures { result.now ≡ blame_words (blame_of self.now) }
-    {
-        match self {
-            Blamed::Instance => b"hub: instance fault ",
-            Blamed::Costs => b"hub: costs fault ",
-        }
+/// The words with which a fault of this file is told.
+fn words_of(blamed: Blamed) -> &'static [u8]
+    ensures { result.now ≡ blame_words (blame_of blamed) }
+{
+    match blamed {
+        Blamed::Instance => b"hub: instance fault ",
+        Blamed::Costs => b"hub: costs fault ",
     }
 }
 
@@ -108,7 +101,7 @@ fn put_words<K: Sink>(file: Blamed, words: &[u8], sink: &mut K) -> Result<(), Fa
 {
     put_line(
         &[
-            Piece::Text(file.words()),
+            Piece::Text(words_of(file)),
             Piece::Text(words),
             Piece::Text(b"\n"),
         ],
@@ -122,7 +115,7 @@ fn put_at<K: Sink>(file: Blamed, words: &[u8], at: u64, sink: &mut K) -> Result<
 {
     put_line(
         &[
-            Piece::Text(file.words()),
+            Piece::Text(words_of(file)),
             Piece::Text(words),
             Piece::Count(at as u128),
             Piece::Text(b"\n"),
@@ -149,7 +142,7 @@ fn put_pair<K: Sink>(file: Blamed, words: &[u8], i: u32, j: u32, sink: &mut K) -
 {
     put_line(
         &[
-            Piece::Text(file.words()),
+            Piece::Text(words_of(file)),
             Piece::Text(words),
             Piece::Count(i as u128 + 1),
             Piece::Text(b" "),
@@ -166,7 +159,7 @@ fn put_size<K: Sink>(file: Blamed, got: i128, sink: &mut K) -> Result<(), Failed
 {
     put_line(
         &[
-            Piece::Text(file.words()),
+            Piece::Text(words_of(file)),
             Piece::Text(b"5 Size "),
             Piece::Number(got),
             Piece::Text(b"\n"),
@@ -181,7 +174,7 @@ fn put_sum<K: Sink>(file: Blamed, sum: i128, sink: &mut K) -> Result<(), Failed>
 {
     put_line(
         &[
-            Piece::Text(file.words()),
+            Piece::Text(words_of(file)),
             Piece::Text(b"11 TooCostly "),
             Piece::Count(natural_of(sum)),
             Piece::Text(b"\n"),

@@ -14,14 +14,12 @@ ghost use Rattle.hub_top.specs.Headline.{Headline};
 
 use crate::Status;
 use crate::answers::Answer;
-use crate::checking::check;
-use crate::halts::Halt;
 use crate::outcomes::{Settled, intend, write};
-use crate::reporting::report;
-use crate::searching::demonstrate;
-use crate::solving::{Solved, solve};
+use hub_checks::{Reported, check, report};
 use hub_io::{Gate, Shelf, Sink};
 use hub_make::instance_text;
+use hub_searches::{Solved, demonstrate, solve};
+use hub_sources::Halt;
 use hub_words::{Command, asked};
 use std::alloc::Global;
 use std::thread::Threads;
@@ -29,17 +27,18 @@ use std::thread::Threads;
 /// Runs the command that the words give, of which the first is the program's name.
 ///
 /// It reads and decides first, takes the room that the writing needs, and then writes: the answer of the command on `out`,
-/// or what hinders it on `err`. Words that are no command, `make` and `demo` call nothing on the shelf, and the others begin only
-/// files that the words name. The runtime serves the workers of a
-/// search and of a certificate's text, the gate those of a search: no clause reads them, nor the number of workers, and out
-/// takes the same text whatever they are. With core cuts `solve` writes the third version of a certificate's text, in
-/// which each core cut has its mark, its hub set and a proof of each dual; else the first or the second, with no mark.
+/// or what hinders it on `err`. Words that are no command, `make` and `demo` call nothing on the shelf, and the others
+/// begin only files that the words name. The runtime serves the workers of a search and of a certificate's text, the gate
+/// those of a search: no clause reads them, nor the number of workers, and out takes the same text whatever they are. With
+/// Pareto-optimal cuts `solve` writes the third version of a certificate's text, in which each Pareto-optimal cut has its
+/// mark, its hub set and a proof of each dual; else the first or the second, with no mark.
 ///
 /// - `ends`: there is an outcome that the words, the files and the shelf's faults allow, and it was written, with its
-///   status; where a sink failed, a front of the text that it was to take, and nothing further.
+///   status; where a sink failed, a prefix of the text that it was to take, and nothing further.
 /// - `means`: what each status says of the words, the files, the faults and what `out` took.
 /// - `complete`: where no fault rose, words that are no command end with status 3, a fault of the instance with 4, `solve`,
-///   `optimize` and `resolve` with 8 where all candidates together lack a commodity, else `solve` and `demo` with 0 or 1 as the
+/// `optimize` and `resolve` with 8 where all candidates together are infeasible for a commodity, else `solve` and `demo`
+/// with 0 or 1 as the
 ///   search rule says, and with 0 where enough nodes are allowed, `resolve` so too where the older certificate serves, which one that
 ///   certifies for other fixed costs or numbers of hubs does, and else with 2, `optimize` with 0 or 1, with 0 where no gap
 ///   and enough nodes are allowed, and with 2 where the bytes of the older certificate that is named are none of its size, `check` with 0, 1 or 2 by the verdict on the certificate's bytes, `report` with 0 or 2 by
@@ -128,8 +127,12 @@ fn answer<R: Threads + Sync, S: Shelf, G: Gate>(
             Ok(Settled::Answered(Answer::Judged(ending)))
         }
         Command::Report(source, certificate) => {
-            let answer = report(rt, alloc, source, certificate, shelf)?;
-            Ok(Settled::Answered(answer))
+            match report(rt, alloc, source, certificate, shelf)? {
+                Reported::Report(instance, certificate) => {
+                    Ok(Settled::Answered(Answer::Reported(instance, certificate)))
+                }
+                Reported::Refused(ending) => Ok(Settled::Answered(Answer::Judged(ending))),
+            }
         }
         Command::Make(making) => {
             let text = instance_text(alloc, making.seed, making.size)?;

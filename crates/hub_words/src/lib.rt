@@ -1,4 +1,4 @@
-//! What the words of a command line ask for.
+//! The arguments of the command line, as clap parses them, to a request.
 //!
 //! [`asked`] gives the [`Command`] that the words are, with the [`Source`] of its instance (a layout, a file, the
 //! instance options and a costs file) or the [`Making`] of it (a seed and a number of nodes), and with the [`Search`]

@@ -37,7 +37,7 @@ pub struct Search {
 pub enum SearchRule {
     /// Node by node, the open child first.
     NodeByNode,
-    /// The same with core cuts, where a hub set has one.
+    /// The same with Pareto-optimal cuts, where a hub set has one.
     ByCoreCuts,
     /// In rounds of nodes side by side.
     ByRounds,

@@ -62,7 +62,7 @@ fn version_by(how: How<'_>, terms: &Terms, format: Option<&str>) -> Option<Versi
     }
 }
 
-/// With core cuts no version is named, and neither routes nor hubs are limited.
+/// With Pareto-optimal cuts no version is named, and neither routes nor hubs are limited.
 fn version_of_core_cuts(terms: &Terms, format: Option<&str>) -> Option<Version>
     ensures value { option_map version_number result ≡ spec.version_by (law.follow law.by_core_cuts) terms.now (option_map (λ word. word.now) format.entry) }
     ensures allowed { IfSome result (λ v. AsksCoreCuts terms.now (version_number v)) }

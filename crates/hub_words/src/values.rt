@@ -190,7 +190,7 @@ fn rule_named(word: &str) -> Option<SearchRule>
     }
 }
 
-/// Tells whether core cuts are asked for: not where nothing is said of the cuts.
+/// Tells whether Pareto-optimal cuts are asked for: not where nothing is said of the cuts.
 pub(crate) fn core_cuts(given: Option<&str>) -> Option<bool>
     ensures { result ≡ spec.core_cuts_asked (option_map (λ word. word.now) given.entry) }
 {

@@ -1,4 +1,4 @@
-//! The reader of instance files in the layout `ap`, of Australia Post.
+//! Reads instance files in the layout `ap` (Australia Post).
 //!
 //! A file holds the number of nodes n, then n pairs of coordinates, n * n flows row by row, the listed number of hubs,
 //! the factors of collection, trunk and delivery, and a tail: whatever it holds is not looked at, or it is a fixed

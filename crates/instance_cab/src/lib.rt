@@ -1,4 +1,4 @@
-//! The readers of instance files in the layouts `cab-matrix` and `cab-rows`, and of costs files.
+//! Reads instance files in the layouts `cab-matrix` and `cab-rows`, and costs files.
 //!
 //! A file in the matrix layout holds the number of nodes n, then n * n flows and n * n distances row by row, and
 //! nothing more; which of the two matrices stands first is an option. A file in the row layout holds n, and then a row

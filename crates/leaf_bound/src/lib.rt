@@ -1,13 +1,13 @@
-//! The bound of a branch under weights on the cuts of a pool.
+//! The bound of a node of the tree under weights on its cuts (Lagrangean bound of the master).
 //!
-//! A [`Weighting`] lends each cut's total, its loads by node and its part, and the fixed costs of the nodes:
-//! totals, loads and fixed costs in 10^-12, weights as shares of a denominator D. A weight counts as often as it has its
-//! cut's part. For such weights the gain of a node is D times its fixed cost, less the weighted loads of the node. The
-//! bound of a branch is the weighted sum of the totals, with the gain of each node inside, and with that of each free node
-//! where it is below 0; so bounds and gains are in 10^-12, times D. A bound closes a target t where it is above
-//! D * (t - 1): then no plan of the branch costs less than t.
+//! A [`Weighting`] lends each cut's total, its loads by node and its part, and the fixed costs of the nodes, in 10^-12, and
+//! weights as shares of a denominator D. A weight counts as often as it has its cut's part. The gain of a node is D times
+//! its fixed cost, less its weighted loads. The bound of a branch is the weighted sum of the totals, with the gain of each
+//! node inside and the negative gains of free nodes; bounds and gains are in 10^-12, times D. A branch is fathomed at a
+//! cutoff t where its bound is above D * (t - 1): then none of its plans costs less than t.
 //!
-//! The weights stand in the order of the cuts, and those missing at the end count as 0. No call takes memory.
+//! Weights stand in the order of the cuts, and missing ones count as 0. Limits are asked of the branch's own nodes. No call
+//! takes memory.
 #![tactic(auto)]
 
 mod bounds;

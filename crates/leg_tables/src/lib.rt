@@ -1,4 +1,4 @@
-//! The legs of an instance's routes by unit of flow, as tables. A leg is a factor times a distance, in 10^-6.
+//! Lengths of the legs of routes per unit of flow, as tables. A leg is a factor times a distance, in 10^-6.
 //!
 //! For `unit_duals`, legs by way of stops: a stop is a place of an order or a hub, and stands for that node. `set_legs`
 //! has the legs between the stops and from them to the destinations, `first_legs` those from one origin to the stops;

@@ -1,4 +1,4 @@
-//! The duals of all commodities of one origin by unit of flow, and least routes, where the length of routes is limited.
+//! Minimal duals and least routes where `--max-length` limits the length of routes.
 //!
 //! Stops are counted as in `leg_tables`: the places of an order come first, and then the hubs. `ways` are the ways from
 //! one origin by way of stops: how long, in 10^-6 by unit of flow, and how far, in 10^-3. Numbers for all destinations

@@ -1,10 +1,7 @@
-//! The report of a certified network: the table that a planner reads.
+//! The report of a certified network: its cost part by part, and the flow of each hub.
 //!
-//! [`report`] puts it on a sink. Its lines are defined in `specs/Texts.antt`, the numbers in them in `specs/Parts.antt`:
-//! what collection, trunk and delivery cost, and the flow that each hub takes up and gives out. [`parts_add_up`] is the
-//! law that the costs in the table are together the cost of the certificate.
-//!
-//! The sums are made in one pass over the routes for the costs and one for the flows, on the stack.
+//! [`report`] prints it. Its lines are defined in `specs/Texts.antt`, the numbers in them in `specs/Parts.antt`.
+//! [`parts_add_up`]: the four parts of the cost are together the cost of the certificate.
 #![tactic(auto)]
 
 ghost use Rattle.std.specs.Prelude.{◌≡◌, nat_eq};

@@ -1,4 +1,4 @@
-//! Sets of nodes that tell in constant time whether a node is in them.
+//! A set of nodes with membership in constant time.
 //!
 //! [`NodeMarks`] holds a mark for each node. Its clauses speak of `marked`, the ascending list of the nodes that are
 //! marked. Once it is made, no call takes memory.

@@ -1,23 +1,19 @@
-//! The search by rounds: the first eight pending nodes have their turns side by side.
+//! Branch and bound by rounds, the search of `solve --rule 2`: the first eight pending nodes are evaluated side by side.
 //!
-//! A node that is still to be handled is a [`Pending`], with its branch, its weights and how often it waited. Its
-//! [`turn`] reads the pool and the incumbent's cost as they are when a round begins, and comes to an [`Outcome`]: a line
-//! ends the node, or it asks for the cut of a hub set, or it is split. [`turns`] works out those of a round by workers
-//! side by side. Then their outcomes are taken, one by one in preorder; no turn of the round sees what came of another.
-//! [`search_rounds`] goes on so until no node is pending or two nodes more are not allowed.
+//! A pending node ([`Pending`]) has its branch, its weights and how often it waited. [`turn`] evaluates it by the pool and
+//! the incumbent's cost as they are when a round begins, with an [`Outcome`]: a line that ends the node, a hub set to
+//! separate, or a split. [`turns`] evaluates the nodes of a round by workers side by side. Outcomes are applied one by one
+//! in preorder. [`search_rounds`] goes on until no node is pending or two more are not allowed.
 //!
-//! A search has several workers in one of two ways. Where turns are long, the workers meet anew for each round. Where they
-//! are short, each worker carries out the whole search as a searcher, and tells the turns that it works out to the others:
-//! what one takes over is the turn of the definition for every searcher that has come as far.
+//! Where an evaluation is long, the workers meet for each round. Where it is short, each worker runs the whole search and
+//! sends its evaluations to the others.
 //!
-//! Turns and what is taken of them are those of the definition (`rounds_spec`), which knows no workers: the finding is the
-//! same for every number of workers, every schedule and every gate. Costs are in 10^-12 and weights in 10^-6; nodes are
-//! `u32`, counted from 0, and cuts are counted from 1.
+//! Evaluations and rounds are those of `rounds_spec`, which knows no workers: the finding is the same for every number of
+//! workers, schedule and gate. Costs are in 10^-12 and weights in 10^-6; nodes are `u32`, counted from 0, cuts from 1.
 //!
-//! In the order of reading: `outcomes`, `turning` (the turn of a node), `rounds` (those of a round), `fronts` (what came of
-//! the nodes of a round), `splitting` and `taking` (what is taken of an outcome), `left` (what is left of the tree), `posts`
-//! (what searchers tell each other), `draws` (in which order they draw turns), `searchers` (searchers side by side), `turners`
-//! (who works out a round's turns) and `searching` (rounds, and the whole search).
+//! In the order of reading: `outcomes`, `turning` (one node), `rounds` (the nodes of a round), `fronts`, `splitting` and
+//! `taking` (outcomes applied), `left` (what is left of the tree), `posts`, `draws`, `searchers` and `turners` (workers),
+//! `searching` (the whole search).
 #![tactic(auto)]
 
 mod closing;

@@ -41,7 +41,7 @@ pub(crate) struct Searcher<'s, 'a> {
     pub(crate) past: u64,
 }
 
-// The turn of the node at this place of the round.
+// The evaluation of the node at this place of the round.
 fn turn_at(
     alloc: Global,
     task: &Task,
@@ -162,7 +162,7 @@ impl<'s, 'a> Searcher<'s, 'a> {
         Ok(())
     }
 
-    /// The turns of the nodes whose turn it is.
+    /// The evaluations of the nodes whose turn it is.
     pub(crate) fn turns<G: Gate>(
         &mut self,
         gate: &G,

@@ -28,9 +28,9 @@ use crate::outcomes::{Outcome, Pending};
 use crate::searchers::side_by_side;
 use crate::taking::take;
 use crate::turners::{Turner, Workers};
+use cut_pool::Found;
 use hub_io::Gate;
 use hub_model::Instance;
-use cut_pool::Found;
 use plan_model::Branch;
 use search_core::Task;
 use search_progress::{Progress, Separator, begin, finish};
@@ -46,9 +46,9 @@ const KEPT_BLOCK: usize = 16 << 20;
 
 /// What the search by rounds finds, where any number of hubs will do: a plan with its cost, a bound that no plan costs
 /// less than, and the cuts and the tree that show it. `nodes` is the most nodes of the tree, the root among them; with
-/// `None` they are not limited. All candidates together lack no commodity. The turns of each round are worked out by so
-/// many workers, 1 to 64, each in a thread of its own where one can be made, and a worker passes the gate once for each
-/// node that it draws, before the node's turn.
+/// `None` they are not limited. All candidates together are feasible for each commodity. The turns of each round are
+/// worked out by so many workers, 1 to 64, each in a thread of its own where one can be made, and a worker passes the gate
+/// once for each node that it draws, before the node's turn.
 ///
 /// The separator works out cuts of minimal duals. The plan costs at most what all candidates do. Only where two nodes more are not allowed the search stops. Else cost and
 /// bound are equal and the plan is optimal. The finding is the same whatever the separator, the number of workers, their

@@ -48,7 +48,7 @@ pub(crate) enum Turner<'s, 'a> {
 }
 
 impl<'s, 'a> Turner<'s, 'a> {
-    /// The turns of the nodes whose turn it is.
+    /// The evaluations of the nodes whose turn it is.
     pub(crate) fn turns<R: Threads + Sync, G: Gate>(
         &mut self,
         workers: &Workers<R, G>,

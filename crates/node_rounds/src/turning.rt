@@ -1,4 +1,4 @@
-//! The turn of a node.
+//! The evaluation of a node.
 
 ghost use Rattle.std.specs.Prelude.{◌≡◌, ◌≤◌, ◌^◌, ◌&&◌, None, not, nat_lt, is_some, IfOk};
 ghost use Rattle.hub_spec.specs.Problem.{Problem, IsProblem};
@@ -20,14 +20,14 @@ use hub_plain::outside;
 use pareto_cuts::order_of;
 use plan_model::{Branch, HubSet};
 use search_core::whole_leaf;
-use search_steps::{NodeWeights, Plain, Rule, closes, is_better, leaf_line, node_advice};
 use search_progress::Solo;
+use search_steps::{NodeWeights, Plain, Rule, closes, is_better, leaf_line, node_advice};
 use std::alloc::{AllocError, Global};
 
 // How often a node may ask for a set by its advice.
 const MOST_WAITS: u32 = 2;
 
-/// The turn of a node, by the pool and the cost of the incumbent, which is in 10^-12. Any number of hubs will do.
+/// The evaluation of a node, by the pool and the cost of the incumbent, which is in 10^-12. Any number of hubs will do.
 ///
 /// The answer is `AllocError` where memory runs out, and where the master is beyond what its rows can hold.
 pub fn turn(
@@ -98,7 +98,7 @@ pub(crate) fn turn_ahead(
     }
 }
 
-// The turn of a node in which the set of these hubs alone is left: the leaf of their cut, if it is in the pool.
+// The evaluation of a node in which the set of these hubs alone is left: the leaf of their cut, if it is in the pool.
 fn turn_alone(
     alloc: Global,
     instance: &Instance,
@@ -128,7 +128,7 @@ fn turn_alone(
     })
 }
 
-// The turn of a node in which more sets than one are left.
+// The evaluation of a node in which more sets than one are left.
 fn turn_advised(
     alloc: Global,
     instance: &Instance,

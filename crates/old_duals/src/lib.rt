@@ -1,4 +1,4 @@
-//! What a search without a rule begins with from an older certificate.
+//! The start of `optimize --from` from an older certificate: its dual values and its hubs.
 //!
 //! [`read_sized`] tries of an older certificate's bytes the text and the size line alone: its duals may be of an instance with
 //! other fixed costs, numbers of hubs or factors, since a search that takes advice trusts none of them. [`first_values`]

@@ -1,7 +1,7 @@
 //! Values of the candidates from a certificate's cuts.
 
-use hub_model::Instance;
 use cut_model::{StatedCut, StatedDual};
+use hub_model::Instance;
 use std::alloc::{AllocError, Global};
 
 /// The values that advice may begin with: a row for each commodity in order, with a value for each candidate, in this unit of
@@ -85,9 +85,10 @@ fn values_of(
     let times = (cut.part() as u128).saturating_mul(unit as u128);
     for number in 0..cut.count() {
         let start = (number as usize).saturating_mul(candidates.len());
+        let end = start.saturating_add(candidates.len()).min(values.len());
         let flow = instance.flows().get(number as usize).copied().unwrap_or(0);
-        if start < values.len() {
-            let row = &mut values[start..];
+        if start < end {
+            let row = &mut values[start..end];
             put_values(
                 &cut.dual(number),
                 &places,

@@ -1,4 +1,4 @@
-//! The bound of a branch where just so many hubs are wanted, and whether it closes a target.
+//! The bound of a branch where exactly p hubs are wanted, and whether it closes a target.
 
 ghost use Rattle.std.specs.Prelude.{◌≡◌, ◌^◌, ◌↔◌, ◌≤◌, length, IsTrue, Some};
 ghost use Rattle.hub_spec.specs.Limits.{most_nodes};

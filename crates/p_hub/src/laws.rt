@@ -3,7 +3,7 @@
 ghost use Rattle.p_hub.specs.Theorems.{LeafHasCounted, SidesClose, NeverBoth, FixingIsSound};
 
 /// The bound by weights in a list is the bound at a leaf with the same weights, those of 0 left out, of an instance in
-/// which just so many hubs are wanted.
+/// which exactly p hubs are wanted.
 pub fn leaf_has_counted()
     ensures { LeafHasCounted }
 {}
@@ -18,7 +18,7 @@ pub fn never_both()
     ensures { NeverBoth }
 {}
 
-/// Where a child of a free candidate closes the target, every plan of that child with just so many hubs costs at least
+/// Where a child of a free candidate closes the target, every plan of that child with exactly p hubs costs at least
 /// the target.
 pub fn fixing_is_sound()
     ensures { FixingIsSound }

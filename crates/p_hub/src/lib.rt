@@ -1,13 +1,11 @@
-//! Bounds, fixings and the picked set where just so many hubs are wanted.
+//! Bounds, variable fixing and rounding where exactly p hubs are wanted.
 //!
-//! In a branch with `p` wanted hubs as many free nodes become hubs as are missing inside. So the bound of the branch is
-//! the weighted sum of the cuts' totals, with the gain of each node inside, and with those of as many free nodes as are
-//! missing, the least ones; `leaf_bound` counts a free node where its gain is below 0. A bound closes a target t where
-//! it is above D * (t - 1), for weights as shares of D: then no plan of the branch with `p` hubs costs less than t.
+//! In a branch as many free nodes become hubs as are missing to p. So its bound has the gains of the nodes inside, and the
+//! least gains of as many free nodes as are missing; `leaf_bound` counts each free node whose gain is negative. A branch
+//! has room for p hubs where at most p nodes are inside, and at least p are inside or free.
 //!
-//! A branch has room for the hubs where at most `p` nodes are inside, and with the free ones at least `p`. The numbers,
-//! their units and limits are those of `leaf_bound`, the sides those of `hub_fixing`. [`bound_p`] and [`closes_p`] take
-//! no memory. [`pick`] chooses a set of `p` hubs in a branch.
+//! [`bound_p`] and [`closes_p`] take no memory. [`fix_p`] is variable fixing by these bounds, and [`pick`] rounds a point
+//! to p hubs. Units and limits are those of `leaf_bound`, the sides those of `hub_fixing`.
 #![tactic(auto)]
 
 mod bounds;

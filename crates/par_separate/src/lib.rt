@@ -1,4 +1,4 @@
-//! A hub set's cut, worked out by several workers.
+//! Separation of a hub set's Benders cut by several workers, one origin at a time.
 //!
 //! What hangs on the set and the order alone is worked out once and shared; then the origins are the blocks of a crew's
 //! work, of which each worker draws one at a time. The cut is that of the set over the order, with all of its duals

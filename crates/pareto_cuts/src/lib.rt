@@ -1,4 +1,4 @@
-//! The duals of a hub set's cut, over an order of the candidates outside it.
+//! The Benders cut of a hub set: minimal duals of all commodities, strengthened in the order of a point, with their sums.
 //!
 //! All commodities of an origin are worked out together, by unit of flow (`unit_duals`): what hangs on the set and the
 //! order alone is worked out once (`set_tables`), a `Separation` is all that an origin's duals hang on, and

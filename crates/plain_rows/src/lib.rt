@@ -1,4 +1,4 @@
-//! Exact pivots on a linear program of few variables, whose numbers may be wide.
+//! The same exact simplex for few variables with wide numbers.
 //!
 //! It makes the runs of `frac_rows`, on tables whose numbers of the variables need not be small. Of each row it keeps the numbers
 //! of the columns outside the basis, which are as many as the variables, where that crate keeps those of the slacks.

@@ -1,4 +1,4 @@
-//! The plan of a certificate taken line by line, with no route of it kept.
+//! Adds up the plan of a certificate line by line, with no route in memory.
 //!
 //! [`PlanSums`] takes the hubs, then the routes in the order of commodities. It tells whether there are as many hubs as
 //! are wanted and whether a node is among them, and adds up what the plan costs. Once it is made, no call takes memory.

@@ -1,4 +1,4 @@
-//! What a search and a certificate are made of: sets of hubs, plans, dual values, branches, and the lines of a tree.
+//! Hub sets, plans, dual values, branches of the tree and its lines, as small types that keep their order and signs.
 //!
 //! Each is a small type that keeps its order and its signs, seen as what the definitions have for it. In the order of
 //! reading: `nodes` (which nodes are in a list), `plans` (sets of hubs, and plans), `costs` (what plans cost), `duals` (the

@@ -9,17 +9,17 @@ ghost use Rattle.dual_lender.specs.Lenders.{IsLenderFor, made_dual};
 use crate::headings::heading_of;
 use crate::marks::said_marks;
 use cert_format::{Certificate, Version};
+use cut_model::StatedCut;
+use cut_pool::{Found, KeptCut, KeptCuts};
 use dual_lender::DualLender;
 use hub_model::Instance;
-use cut_pool::{Found, KeptCut, KeptCuts};
 use plan_model::{Dual, Plan, TreeLine};
-use cut_model::StatedCut;
 use std::alloc::{AllocError, Global};
 
-/// The certificate of what a search of the instance found in this version, with the duals of each cut made anew, and
-/// those of a core cut or one that was given copied. In the third version core cuts are marked. The first version is for
-/// findings that it has lines for: the part of each cut is 1, its duals have at most 30 digits, and no tree line says that a
-/// commodity is blocked or hubs are too few.
+/// The certificate of what a search of the instance found in this version, with the duals of each cut computed again, and
+/// those of a Pareto-optimal cut or one that was given copied. In the third version Pareto-optimal cuts are marked. The
+/// first version is for findings that it has lines for: the part of each cut is 1, its duals have at most 30 digits, and
+/// no tree line says that a commodity is blocked or hubs are too few.
 pub fn certificate_of(
     alloc: Global,
     instance: &Instance,

@@ -1,4 +1,4 @@
-//! The lines of a kept cut: the one that begins it, and those of its duals.
+//! The lines of a stored cut: the one that begins it, and those of its duals.
 
 ghost use Rattle.std.specs.Prelude.{◌≡◌, ◌<◌};
 ghost use Rattle.cert_scan.specs.Versions.{version_number};
@@ -14,10 +14,10 @@ use crate::marks::said_mark;
 use crate::numbered::NumberedCut;
 use crate::proved_duals::put_proved;
 use cert_format::{Version, put_cut, put_dual, put_marked_cut};
+use cut_pool::KeptCut;
 use dual_lender::DualLender;
 use hub_io::{Buffer, Failed, Sink};
 use hub_model::Instance;
-use cut_pool::KeptCut;
 
 /// Puts the line that begins the cut, with the mark that the version says.
 pub(crate) fn put_cut_line<K: Sink>(

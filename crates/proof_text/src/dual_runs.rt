@@ -8,10 +8,10 @@ ghost use Rattle.cut_pool.specs.Kept.{kept_of, IsKeptFor};
 ghost use Rattle.dual_lender.specs.Lenders.{kept_dual, HasDuals};
 
 use cert_format::put_dual;
+use cut_pool::KeptCut;
 use dual_lender::DualLender;
 use hub_io::{Buffer, Failed, Sink};
 use hub_model::Instance;
-use cut_pool::KeptCut;
 
 /// Puts a line for each run of equal duals of the commodities from `i`. It takes no memory.
 ///

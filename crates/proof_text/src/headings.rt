@@ -8,8 +8,8 @@ ghost use Rattle.cut_pool.specs.Findings.{proof_of};
 ghost use Rattle.proof_text.specs.Certificates.{CanBeStated};
 
 use cert_format::{Heading, Version};
-use hub_model::Instance;
 use cut_pool::Found;
+use hub_model::Instance;
 
 /// What the first lines of the certificate say, in this version.
 pub(crate) fn heading_of(instance: &Instance, found: &Found, version: Version) -> Heading

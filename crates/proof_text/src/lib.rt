@@ -1,10 +1,10 @@
-//! What a search found, as a certificate: written as its text, or made as a value.
+//! Writes the certificate of what a search found, by one worker or several, or makes it as a value.
 //!
-//! A search keeps of each cut what its duals can be made from anew, and a `DualLender` of `dual_lender` lends them one at
+//! A search keeps of each cut what its duals can be computed again from, and a `DualLender` of `dual_lender` lends them one at
 //! a time. [`write_found`] puts the text: on one thread through the lender that it is given, or by workers with lenders of
 //! their own, of which each works out the texts of some origins of some cuts. [`certificate_of`] makes the whole
 //! certificate with all duals, for those that read it again. Both are for each version of the text: from the second on equal
-//! neighbours of one origin are one line, and in the third core cuts are marked, with a line for each dual and its proof on
+//! neighbours of one origin are one line, and in the third Pareto-optimal cuts are marked, with a line for each dual and its proof on
 //! the next. [`found_text_is_certificate`] says that the text that is put is that certificate's, and [`stated_holds`] that
 //! what it states holds. Costs are in 10^-12.
 //!

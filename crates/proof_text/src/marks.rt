@@ -1,4 +1,4 @@
-//! The marks of core cuts: those that a text says, and copies of them.
+//! The marks of Pareto-optimal cuts: those that a text says, and copies of them.
 
 ghost use Rattle.std.specs.Prelude.{◌≡◌, map, option_map, IfOk};
 ghost use Rattle.cert_scan.specs.Versions.{version_number};

@@ -1,10 +1,10 @@
 //! A cut of a finding, as its lines are put.
 
 use cert_format::Version;
-use hub_model::Instance;
 use cut_pool::KeptCut;
+use hub_model::Instance;
 
-/// A kept cut of the instance, whose lines are put in this version under this number, counted from 1.
+/// A stored cut of the instance, whose lines are put in this version under this number, counted from 1.
 #[derive(Clone, Copy)]
 pub(crate) struct NumberedCut<'a> {
     pub(crate) instance: &'a Instance,

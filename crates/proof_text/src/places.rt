@@ -11,10 +11,10 @@ ghost use Rattle.proof_text.specs.Places.{AreLines, place_count, cut_of, items_o
 use crate::dual_lines::{put_cut_line, put_origin};
 use crate::numbered::NumberedCut;
 use cert_format::Version;
+use cut_pool::{KeptCut, KeptCuts};
 use dual_lender::DualLender;
 use hub_io::{Buffer, Failed, Sink};
 use hub_model::Instance;
-use cut_pool::{KeptCut, KeptCuts};
 
 /// The cuts of a finding for the instance, whose lines are put in this version.
 #[derive(Drop)]

@@ -10,9 +10,9 @@ ghost use Rattle.proof_text.specs.Texts.{proved_from};
 use crate::numbered::NumberedCut;
 use cert_format::{put_dual, put_proof};
 use cut_model::DualProof;
+use cut_pool::KeptCut;
 use dual_lender::DualLender;
 use hub_io::{Buffer, Failed, Sink};
-use cut_pool::KeptCut;
 
 /// Puts a line for the dual of each commodity from `i`, and behind it that of its proof, which stands at the number of the
 /// commodity. It takes no memory.

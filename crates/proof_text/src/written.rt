@@ -17,10 +17,10 @@ use crate::numbered::NumberedCut;
 use crate::places::CutLines;
 use crate::together::{Workers, put_cuts_together};
 use cert_format::{Version, put_top, put_tree};
+use cut_pool::{Found, KeptCuts};
 use dual_lender::DualLender;
 use hub_io::{Buffer, Failed, Sink};
 use hub_model::Instance;
-use cut_pool::{Found, KeptCuts};
 use std::thread::Threads;
 
 /// What a search of the instance found, and the version of the text that is written of it.
@@ -31,10 +31,11 @@ pub struct Finding<'a> {
     pub version: Version,
 }
 
-/// Writes the certificate of the finding; in the third version, core cuts are marked. It fails only where a put does.
+/// Writes the certificate of the finding; in the third version, Pareto-optimal cuts are marked. It fails only where a put does.
 ///
-/// Each dual is made anew: by the lender, which is for the instance, or by the workers. The text is the same for every number
-/// of workers. One worker takes no memory, and where memory for several is wanting, the lender does their work.
+/// Each dual is computed again: by the lender, which is for the instance, or by the workers. The text is the same for
+/// every number of workers. One worker takes no memory, and where memory for several is wanting, the lender does their
+/// work.
 pub fn write_found<R: Threads + Sync, K: Sink>(
     workers: &Workers<R>,
     finding: &Finding<'_>,

@@ -1,4 +1,5 @@
-//! The rule of a search by rounds, eight nodes side by side, and what is proved of it. `node_rounds` is its code.
+//! Branch and bound by rounds of eight nodes, evaluated side by side, as a function with its theorems. No code;
+//! `node_rounds` is its code.
 //!
 //! The definitions stand in `specs/`, in the order of reading: `Places` (what a search by rounds has of its tree), `Turns`
 //! (the rule: a node's turn, what is taken of its outcome, a round, the end), `Outcomes` (a round by the list of its

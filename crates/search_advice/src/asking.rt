@@ -54,7 +54,7 @@ pub trait Advice {
     /// The hubs of the best set that was found at the node, marked by place; none if none was found.
     fn guess(&self) -> &[bool];
 
-    /// The free place to branch on, if any is free.
+    /// The free candidate to branch on, if any is free.
     fn branch_place(&self) -> Option<usize>;
 
     /// Puts aside what a node's passes start from, to go back to it. Such calls are nested: what was put aside last is gone

@@ -1,9 +1,9 @@
-//! What a search asks of those who advise it.
+//! The trait by which `optimize` asks a heuristic for dual values, hub sets and a branching. Nothing is claimed of the
+//! answers.
 //!
-//! A search tells its [`Advice`] where it is, lets it better its values as long as that goes on, and takes from it what it
-//! then makes exact: the cut of the values, the cost of a hub set, a place to branch on. So nothing is claimed of advice,
-//! bad advice costs time alone, and searches and those who advise them know nothing of each other. A place is a
-//! candidate, counted from 0. Costs are in 10^-12.
+//! A search tells its [`Advice`] which node it is at, lets it improve its dual values as long as that pays, and takes from
+//! it what it then makes exact: the cut of the values, the cost of a hub set, a candidate to branch on. Bad advice costs
+//! time alone. Places are candidates, counted from 0; costs are in 10^-12.
 #![tactic(auto)]
 
 mod asking;

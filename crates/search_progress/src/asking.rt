@@ -15,9 +15,9 @@ use std::alloc::{AllocError, Global};
 /// What was worked out of the cut of a hub set.
 #[derive(Drop)]
 pub enum Separated {
-    /// The sums of a cut whose duals can be made anew.
+    /// The sums of a cut whose duals can be computed again.
     Sums(CutSums),
-    /// A core cut.
+    /// A Pareto-optimal cut.
     Core(MarkedCut),
 }
 
@@ -41,7 +41,7 @@ pub trait Separator {
     // What holds of a separator that may be asked.
     ghost ready: { Self → Type 0 };
 
-    /// The cut of the hub set over this order of the candidates outside it: its sums, in 10^-12, or the core cut.
+    /// The cut of the hub set over this order of the candidates outside it: its sums, in 10^-12, or the Pareto-optimal cut.
     fn separate(
         &mut self,
         alloc: Global,

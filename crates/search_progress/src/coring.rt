@@ -1,4 +1,4 @@
-//! A separator of core cuts.
+//! A separator of Pareto-optimal cuts.
 
 ghost use Rattle.std.specs.Prelude.{◌≡◌, IfOk};
 ghost use Rattle.search_progress.specs.Kinds.{minimal, core};
@@ -9,7 +9,8 @@ use hub_model::Instance;
 use plan_model::HubSet;
 use std::alloc::{AllocError, Global};
 
-/// Separates core cuts, on the thread that asks. Where a hub set has none, its cut is the one that another separator works out.
+/// Separates Pareto-optimal cuts, on the thread that asks. Where a hub set has none, its cut is the one that another
+/// separator works out.
 #[derive(Drop)]
 pub struct Coring<S: Drop> {
     /// Who works out the other cuts.

@@ -7,7 +7,7 @@ pub fn parts_are_sound()
     ensures { PartsAreSound }
 {}
 
-/// By minimal duals the rule is the one without core cuts.
+/// By minimal duals the rule is the one without Pareto-optimal cuts.
 pub fn minimal_is_rule()
     ensures { MinimalIsRule }
 {}

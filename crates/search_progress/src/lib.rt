@@ -1,5 +1,4 @@
-//! What a search has so far, whatever its rule and the order of its nodes: how it begins, what a separation and a stop
-//! make of it, and what is found at its end.
+//! The state of a search by rule: pool, incumbent, nodes, stop; separation of hub sets, its beginning, and its end.
 //!
 //! [`Progress`] is the state of a search's definition (`search_spec`), with the lines of the tree that are finished.
 //! [`begin`] separates the sets with which a rule begins, [`separate`] a set, whose cut becomes the next of the pool
@@ -7,6 +6,11 @@
 //! each leaves the state that the step of its name leaves. What
 //! [`finish`] gives is what is found where the state is that of the definition at its end and the lines are those of its
 //! tree in preorder.
+//!
+//! Cuts are asked of a [`Separator`] (`asking`), which works out the cut of its kind of a hub set over an order: by one
+//! thread ([`Solo`]), by several side by side, or Pareto-optimal cuts where there are ([`Coring`]). So no search depends
+//! on who worked a cut out. In the order of reading: `asking`, `solos`, `coring`, `laws`; `progress`, `separating`,
+//! `starting`, `stopping`, `finishing`.
 //!
 //! Costs are in 10^-12 and weights in 10^-6; nodes are `u32`, counted from 0, and cuts are counted from 1.
 #![tactic(auto)]

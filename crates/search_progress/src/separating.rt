@@ -98,7 +98,7 @@ fn add_sums(
     Ok(cost)
 }
 
-// The same of a core cut, whose set costs what its least routes and its hubs do.
+// The same of a Pareto-optimal cut, whose set costs what its least routes and its hubs do.
 fn add_core(
     alloc: Global,
     instance: &Instance,

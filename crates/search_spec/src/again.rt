@@ -17,7 +17,7 @@ pub fn again_is_start()
     ensures { AgainIsStart }
 {}
 
-/// The given cuts have the numbers after those of the cuts with which the rule begins, and keep them.
+/// The imported cuts have the numbers after those of the cuts with which the rule begins, and keep them.
 pub fn given_are_kept()
     ensures { GivenAreKept }
 {}

@@ -1,4 +1,4 @@
-//! A branching tree as a walk over its lines, for searches that follow no fixed rule.
+//! A branching tree as a walk over its lines, for searches that follow no rule.
 //!
 //! A search that goes into the open child first writes the tree's lines one by one, and keeps the branches that are still
 //! to be filled, the next one first. The definitions stand in `specs/`. There is no code: each function is empty, and its

@@ -40,10 +40,11 @@ pub fn node_advice<R: Rule>(
 {
     let mut room = Vec::new(alloc);
     let fixed = rule.advised_costs(instance, cost, &mut room)?;
+    let loads = pool.unit_loads(alloc)?;
     let mut advice = advise_by_totals(
         alloc,
         pool.unit_totals(),
-        pool.unit_loads(),
+        &loads,
         short_rows(pool),
         pool.most_stated(),
         fixed,

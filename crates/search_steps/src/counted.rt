@@ -1,4 +1,4 @@
-//! The rule for plans with just so many hubs.
+//! The rule for plans with exactly p hubs.
 
 ghost use Rattle.std.specs.Prelude.{◌≡◌, Some};
 
@@ -11,7 +11,7 @@ use p_hub::{bound_p, fix_p};
 use plan_model::{Branch, HubSet, TreeLine};
 use std::alloc::{AllocError, Global};
 
-/// The rule for plans with just so many hubs: a branch ends where it cannot have so many, and is one hub set where its
+/// The rule for plans with exactly p hubs: a branch ends where it cannot have so many, and is one hub set where its
 /// hubs are as many, or all its nodes are that are not closed.
 pub struct Counted {
     /// How many hubs are wanted.

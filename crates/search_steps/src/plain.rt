@@ -12,7 +12,7 @@ use plan_model::{Branch, HubSet, TreeLine};
 use std::alloc::{AllocError, Global};
 
 /// The rule for plans with any number of hubs: a branch ends where every candidate is closed, or where its nodes that
-/// are not closed lack a commodity, and is one hub set where no node is free.
+/// are not closed are infeasible for a commodity, and is one hub set where no node is free.
 pub struct Plain;
 
 impl Rule for Plain {

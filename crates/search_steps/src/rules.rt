@@ -39,7 +39,7 @@ pub trait Rule {
         ensures { (p : Problem) → serves self.now p
             → option_map (λ line. tree_line_of line ∷ []) result ≡ option_map preorder ((parts_of p).barren branch.now) };
 
-    /// The line of a branch in which no hub set is left since all its nodes that are not closed lack a commodity
+    /// The line of a branch in which no hub set is left since all its nodes that are not closed are infeasible for a commodity
     /// together. The branch has no end by its numbers.
     fn blocked(
         &self,

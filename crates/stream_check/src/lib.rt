@@ -1,4 +1,4 @@
-//! The check of a certificate that a shelf holds, of which no more than a piece is held at a time.
+//! The check of a certificate's file, read in pieces.
 //!
 //! [`check_held`] reads the bytes under a name piece by piece and feeds each to a stream, which tells the verdict on all of them.
 #![tactic(auto)]

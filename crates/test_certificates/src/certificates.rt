@@ -1,5 +1,6 @@
 //! Certificates, a case a line of standard input: their texts scanned (`cert_scan`), read and written (`cert_format`),
-//! checked whole (`cert_checker`) and as they come (`cert_stream`, `stream_check`), and reported (`network_report`).
+//! checked whole (`cert_checker`) and as they come (`cert_stream`, `stream_check`), tried as older ones (`cert_checker`,
+//! `old_duals`), and reported (`network_report`).
 //!
 //! Each line is printed back, and below it what the calls gave. A line that begins with `#` and an empty one are only
 //! printed back, an `instance` and a `text` only kept. In a text `;` stands for the end of a line, and `~` for a carriage return. A
@@ -14,6 +15,8 @@
 //! - `instance COLLECT TRUNK DELIVER / CANDIDATES / FLOWS / DISTANCES / FIXED COSTS / HUBS LISTED`: the instance of the
 //!   lines below, its factors in 10^-3, the other numbers whole, row by row; HUBS LISTED may be missing
 //! - `check TEXT`: how the check of the whole text ends, and that of its pieces of 7 bytes
+//! - `older TEXT`: what is said of the text as an older certificate, by its cuts and by its size alone
+//! - `values UNIT TEXT`: the values that advice may begin with, in this unit, by the cuts of the text
 //! - `cuts TEXT`: checks of the text cut in two at every place
 //! - `taken TEXT`: the items of a scan taken one by one, and what is told then
 //! - `report CALL COUNT TEXT`: the report, where the certificate holds; CALL and COUNT as above
@@ -24,6 +27,7 @@
 
 mod checks;
 mod names;
+mod olders;
 mod reports;
 mod scans;
 mod shelves;
@@ -98,6 +102,8 @@ fn of_instance<R: Print + Threads + Sync>(
 ) -> io::Result<()> {
     match word {
         "check" => checks::check(rt, alloc, instance, &text_in(alloc, kept, rest)?),
+        "older" => olders::older(rt, alloc, instance, &text_in(alloc, kept, rest)?),
+        "values" => olders::values(rt, alloc, instance, kept, rest),
         "cuts" => streams::cut_anywhere(rt, alloc, instance, &text_in(alloc, kept, rest)?),
         "taken" => streams::taken(rt, alloc, instance, &text_in(alloc, kept, rest)?),
         "report" => reports::report(rt, alloc, instance, kept, rest),

@@ -1,5 +1,4 @@
-//! Cases of certificates. A line `== PART` of standard input begins the cases of a part, which its module describes: `lines` (single
-//! lines tried one by one), `certificates` (whole texts scanned, read, written, checked and reported).
+//! Cases of certificates: single lines and whole texts, scanned, read, checked and reported.
 #![tactic(auto)]
 
 mod certificates;

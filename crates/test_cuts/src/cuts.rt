@@ -1,16 +1,17 @@
-//! Cases of `hub_edges`, `unit_duals`, `leg_tables`, `assign_sub`, `dual_cuts`, `pareto_cuts` and `value_cuts`, a line of
-//! standard input each. Each is printed, with its answer behind it; comments are printed as they are.
+//! Cases of `hub_edges`, `unit_duals`, `leg_tables`, `assign_sub`, `dual_cuts`, `pareto_cuts`, `core_cuts` and `value_cuts`, a line
+//! of standard input each. Each is printed, with its answer behind it; comments are printed as they are.
 //!
 //! The line `instance` of a paragraph makes the instance that its lines ask of. It has numbers behind words: `size`,
 //! `candidates`, `flows` (10^-6), `distances` (10^-3), and where they are asked for `fixed` (10^-6), `collect`, `trunk`,
-//! `deliver` (10^-3).
+//! `deliver`, `longest` (10^-3).
 //!
 //! Of an instance: `row from I to J`, `set_legs` and `first_legs` (of three nodes), and by a `row` of values in a `unit`
-//! `value_sums` and `value_dual from I to J`. Of some hubs of it, `hubs H ..`: `assign`, `order` (by a `point`), `cut`, and
-//! with `from I to J` the minimal dual by its row (`row_dual`), by all commodities of its origin (`strong_dual`), and by
-//! the parts that work out an origin (`separation`). Of no instance: `unit_duals`, of legs from stop to stop (`trunk`), to
-//! the destinations (`last`) and from an origin (`first`).
+//! `value_sums`, `value_prices` and `value_dual from I to J`. Of some hubs of it, `hubs H ..`: `lacking`, `assign`, `order` (by
+//! a `point`), `cut`, `core_cut`, and with `from I to J` the Pareto-optimal dual (`core_dual`), and the minimal dual by its row
+//! (`row_dual`), by all commodities of its origin (`strong_dual`), and by the parts that work out an origin (`separation`). Of
+//! no instance: `unit_duals`, of legs from stop to stop (`trunk`), to the destinations (`last`) and from an origin (`first`).
 
+mod cores;
 mod cuts;
 mod edges;
 mod legs;
@@ -69,7 +70,7 @@ fn of_instance(alloc: Global, instance: &Instance, line: &str) -> Result<String,
         "row" => edges::asked(alloc, instance, line),
         "set_legs" => legs::set_legs(alloc, instance),
         "first_legs" => legs::first_legs(alloc, instance),
-        "value_sums" | "value_dual" => values::asked(alloc, instance, line),
+        "value_sums" | "value_prices" | "value_dual" => values::asked(alloc, instance, line),
         _ => sets::asked(alloc, instance, line),
     }
 }

@@ -1,6 +1,4 @@
-//! Cases of instances and cuts. A line `== PART` of standard input begins the cases of a part, which its module describes: `models`
-//! (instances, plans, the plain program), `cuts` (hub edges, assignments, duals and cuts), `masters` (rows, masters, bounds,
-//! the pool).
+//! Cases of instances, duals, cuts, simplex, master, bounds and pool.
 #![tactic(auto)]
 
 mod cuts;

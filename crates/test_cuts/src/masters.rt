@@ -1,5 +1,5 @@
-//! Cases of what a search asks of its cuts: `frac_rows` (pivots and runs), `frac_master` (masters and their advice),
-//! `leaf_bound` and `hub_fixing` (bounds of branches, and what they decide) and `cut_pool` (cuts under their numbers).
+//! Cases of what a search asks of its cuts: `frac_rows` and `plain_rows` (pivots and runs), `frac_master` (masters and their advice),
+//! `leaf_bound`, `hub_fixing` and `p_hub` (bounds of branches, and what they decide) and `cut_pool` (cuts under their numbers).
 //!
 //! A line of standard input is a case, and what it gives is printed. A line that begins with `#` is printed as it is,
 //! and an empty line is passed over. The fields of a case are parted by `;`. Where a field gives numbers, words that are
@@ -7,20 +7,25 @@
 //! of a cut is 1, but in a field with the word `part`, where it stands before the total.
 //!
 //!     rows RIGHTS; NUMBERS OF THE VARIABLES, ROW BY ROW; STEP; STEP ..       a step: table, run, or pivot ROW COLUMN
+//!     plain OBJECTIVE; CONSTRAINT / CONSTRAINT ..; STEP ..      a constraint: its numbers, and the right side; a step: table or run
 //!     first BRANCH; FIXED COSTS; TOTAL AND LOADS OF A CUT; ..                the master's first table
 //!     advise BRANCH; FIXED COSTS; TOTAL AND LOADS OF A CUT; ..               what it advises
 //!     advise-by-totals BRANCH; ..                                            the same, of loads within their totals
 //!     leaf BRANCH; TARGETS; WEIGHTS AND WHAT THEY ARE SHARES OF; FIXED COSTS; TOTAL AND LOADS OF A CUT; ..
+//!     counted P; BRANCH; ..                                  the same where P hubs are wanted
+//!     pick P; BRANCH; POINT                                  P hubs by the point
 //!     pool STEP; STEP ..     a step: reserve COUNT, add SET, ORDER, TOTAL, LOADS, find SET, short, or cuts
 //!
 //! In the order of reading: `fields` (numbers, branches and cuts of a line), `limits` (numbers and nodes within
-//! limits), `tables` (rows), `masters`, `weighing` and `leaves` (leaf), `pools` (pool).
+//! limits), `tables` (rows), `programs` (plain), `masters`, `weighing` and `leaves` (leaf), `counted` (counted and pick), `pools` (pool).
 
+mod counted;
 mod fields;
 mod leaves;
 mod limits;
 mod masters;
 mod pools;
+mod programs;
 mod tables;
 mod weighing;
 
@@ -53,8 +58,11 @@ fn answer(alloc: Global, line: &str) -> Result<String, AllocError> {
 fn answer_to(alloc: Global, word: &str, rest: &str) -> Result<String, AllocError> {
     match word {
         "rows" => tables::told(alloc, rest),
+        "plain" => programs::told(alloc, rest),
         "first" | "advise" | "advise-by-totals" => masters::told(alloc, word, rest),
         "leaf" => leaves::told(alloc, rest),
+        "counted" => counted::told(alloc, rest),
+        "pick" => counted::picked(alloc, rest),
         "pool" => pools::told(alloc, rest),
         _ => String::from_str(alloc, "no case\n"),
     }

@@ -1,5 +1,4 @@
-//! Lines of cases, as the test programs of other crates read them: words behind their names, and the instance of a line's
-//! numbers. What is outside the limits of an instance gives none; nothing else is told of a line that is not as it should be.
+//! Reads the lines of cases of the test programs.
 #![tactic(auto)]
 
 mod calls;

@@ -1,6 +1,6 @@
 //! Instances by the numbers behind their names.
 
-ghost use Rattle.std.specs.Prelude.{◌≡◌, ◌^◌, pos, ◌≤ℤ◌, None, IfOk, IfSome};
+ghost use Rattle.std.specs.Prelude.{◌≡◌, ◌*◌, ◌^◌, pos, ◌≤ℤ◌, None, IfOk, IfSome};
 
 use crate::words::{list, node, number};
 use hub_model::{Factors, Instance, Nodes, Parts, Terms, is_node_list};
@@ -17,8 +17,11 @@ const AS_THEY_ARE: Factors = Factors {
 // The greatest fixed cost that options give, in 10^-6.
 const MOST_FIXED: u64 = 1_000_000_000_000_000_000;
 
+// The greatest length that options give, in 10^-3.
+const MOST_LONGEST: u64 = 30_000_000_000;
+
 /// The instance of the numbers that a line has behind `size`, `flows` and `distances`, all as a file's parts have them, and
-/// perhaps behind `listed`, `collect`, `trunk`, `deliver`, `fixed` and `candidates`. A line that ends with `no_self` leaves out
+/// perhaps behind `listed`, `collect`, `trunk`, `deliver`, `fixed`, `longest` and `candidates`. A line that ends with `no_self` leaves out
 /// the flow of a node to itself.
 pub fn named_instance(alloc: Global, line: &str) -> Result<Instance, NoInstance> {
     let terms = terms(alloc, line)?;
@@ -52,7 +55,7 @@ fn listed(line: &str) -> Option<u32> {
     u32::try_from(number).ok()
 }
 
-/// The options: factors in place of the file's, a fixed cost, candidates, and no flow of a node to itself.
+/// The options: factors in place of the file's, a fixed cost, candidates, the longest route, and no flow of a node to itself.
 fn terms(alloc: Global, line: &str) -> Result<Terms, NoInstance>
     ensures { IfOk result (λ terms. terms.hubs ≡ None) }
 {
@@ -64,6 +67,7 @@ fn terms(alloc: Global, line: &str) -> Result<Terms, NoInstance>
         fixed: fixed(line),
         candidates,
         no_self: line.ends_with("no_self"),
+        longest: longest(line),
         ..Terms::plain()
     })
 }
@@ -97,6 +101,16 @@ fn fixed(line: &str) -> Option<i128>
 {
     match number(line, " fixed ") {
         Some(cost) if cost <= MOST_FIXED => Some(cost as i128),
+        _ => None,
+    }
+}
+
+/// The length that no route may be above, if one is named within the limits.
+fn longest(line: &str) -> Option<i128>
+    ensures { IfSome result (λ z. (pos 0 ≤ℤ z) × (z ≤ℤ pos (3 * 10 ^ 10))) }
+{
+    match number(line, " longest ") {
+        Some(most) if most <= MOST_LONGEST => Some(most as i128),
         _ => None,
     }
 }

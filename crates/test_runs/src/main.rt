@@ -1,9 +1,10 @@
-//! Whole runs over memory.
+//! Whole runs of the program over memory, with failing reads and writes.
 //!
-//! With words of its own it is the program `hub` over the files of this folder, on a shelf in memory: it ends as `hub` does, once
-//! it has seen that short reads change nothing, that each call of the shelf which fails is the last one and is told with
-//! out left empty, and that each put which fails is the last one and ends the run, with a front of the text taken, however many
-//! bytes it still took. Else it ends with 99. With no words it runs the cases of standard input (`cases`).
+//! With words of its own it is the program `hub` over the files of this folder, on a shelf in memory: it ends as `hub`
+//! does, once it has seen that short reads change nothing, that each call of the shelf which fails is the last one and is
+//! told with out left empty, and that each put which fails is the last one and ends the run, with a prefix of the text
+//! taken, however many bytes it still took. Else it ends with 99. With no words it runs the cases of standard input
+//! (`cases`).
 #![tactic(auto)]
 
 mod cases;

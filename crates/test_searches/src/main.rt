@@ -1,8 +1,8 @@
-//! What searches find, a case a line of standard input.
+//! Cases of searches and of the texts of what they find.
 //!
-//! Of `hub_model` the fixed costs of an instance, of `search_steps` a leaf, of `separators` the sums of cuts, of
-//! `branch_tree` whole searches, and of `proof_text` the texts of what they found, also where a put fails. The other steps
-//! are taken by each search.
+//! Of `hub_model` the fixed costs of an instance, of `search_steps` a leaf, of `search_progress` the sums of cuts, of
+//! `branch_tree` whole searches, also begun again, and of `proof_text` the texts of what they found, also where a put fails.
+//! The other steps are taken by each search.
 //!
 //! Nodes are counted from 0, and from 1 in certificates. A line is one of these:
 //!
@@ -14,6 +14,8 @@
 //! - `sums HUB .. by fixed .. candidates .. trunk .. flows .. distances ..`: the sums of the cut of these hubs, by a
 //!   separator that was made for another instance
 //! - `search NODES`: what the search finds with this most number of nodes, or `all`
+//! - `again NODES hubs HUB ..`: what the search finds that begins with these hubs and their Pareto-optimal cut, with what an optimal plan
+//!   costs
 //! - `text NODES`: the text of what it finds, in the first version
 //! - `second NODES`: the same in the second version
 //! - `together NODES`: the same by three workers
@@ -76,6 +78,7 @@ fn of_instance<R: Threads + Sync>(
         "fixed" => steps::fixed(alloc, instance),
         "sums" => steps::sums(alloc, instance, line),
         "search" => searches::search_told(alloc, instance, line),
+        "again" => searches::again_told(alloc, instance, line),
         "text" => texts::text(rt, alloc, instance, line, Version::First, 1),
         "second" => texts::text(rt, alloc, instance, line, Version::Second, 1),
         "together" => texts::text(rt, alloc, instance, line, Version::Second, 3),

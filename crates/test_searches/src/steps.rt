@@ -9,8 +9,8 @@ use cut_pool::CutSums;
 use hub_model::Instance;
 use hub_plain::{is_hub_set, outside};
 use plan_model::HubSet;
-use search_steps::leaf_line;
 use search_progress::Solo;
+use search_steps::leaf_line;
 use std::alloc::{AllocError, Global};
 use test_lines::list;
 
@@ -54,8 +54,12 @@ fn sums_by(
     sums_told(alloc, &sums)
 }
 
-// The set of these hubs, if the instance has such a set.
-fn set_of(alloc: Global, instance: &Instance, hubs: &[u32]) -> Result<Option<HubSet>, AllocError>
+/// The set of these hubs, if the instance has such a set.
+pub(crate) fn set_of(
+    alloc: Global,
+    instance: &Instance,
+    hubs: &[u32],
+) -> Result<Option<HubSet>, AllocError>
     ensures { IfOk result (λ found. IfSome found (λ set. IsHubSet instance.now set)) }
 {
     if !is_hub_set(instance, hubs) {

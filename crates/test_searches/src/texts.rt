@@ -87,7 +87,6 @@ pub(crate) fn failing<R: Threads + Sync>(
     told(alloc, done, &sink)
 }
 
-#[tactic(auto, using(proof_text::proofs::StatedFindings::proved_stated))]
 fn put_found<R: Threads + Sync>(
     workers: &Workers<R>,
     finding: &Finding<'_>,
@@ -107,7 +106,6 @@ pub(crate) fn made(alloc: Global, instance: &Instance, line: &str) -> Result<Str
     told(alloc, done, &sink)
 }
 
-#[tactic(auto, using(proof_text::proofs::StatedFindings::proved_stated, proof_text::proofs::StatedFindings::proved_version))]
 fn put_made(
     alloc: Global,
     instance: &Instance,

@@ -1,6 +1,4 @@
-//! Cases of what stands between the outside and an instance. A line `== PART` of standard input begins the cases of a part, which
-//! its module describes: `texts` (tokens, numbers, printed lines, shelves and sinks in memory), `readings` (instance files,
-//! made-up instances, the words of a command), `machines` (files and streams of the machine; it has no cases).
+//! Cases of numbers, files, made instances, arguments and streams.
 #![tactic(auto)]
 
 mod machines;

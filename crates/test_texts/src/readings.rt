@@ -10,7 +10,7 @@
 //! - `ap TAIL DIVIDE: FILE`, of `instance_ap`
 //! - `distance DX DY DIVIDE` and `root VALUE`, of `fixed_distance`
 //! - `made-text SEED NODES`, of `hub_make`: the text, or of a long one its length, its checksum Adler-32 and its ends
-//! - `made-instance SEED NODES`, of `hub_demo`, and `demo-lines ROOM NODES COST BOUND HUBS SEARCHED`, its lines, put on
+//! - `made-instance SEED NODES`, of `hub_make`, and `demo-lines ROOM NODES COST BOUND HUBS SEARCHED`, its lines, put on
 //!   a sink that has room for so many bytes
 //! - `words: WORD WORD..`, of `hub_words`: the command that the words are
 //!

@@ -1,6 +1,6 @@
 //! Instances whose hubs cost nothing, and the set of the first node.
 
-ghost use Rattle.std.specs.Prelude.{IfOk};
+ghost use Rattle.std.specs.Prelude.{◌≡◌, None, IfOk};
 ghost use Rattle.hub_spec.specs.Plans.{IsHubSet};
 
 use hub_model::{Factors, Instance, Parts, Terms};
@@ -17,7 +17,8 @@ pub(crate) fn of_the_plane(alloc: Global) -> Result<Instance, Fail> {
         deliver: 2000,
     };
     let flows = &[3_000_000, 4_000_000, 4_000_000, 6_000_000];
-    instance(alloc, 2, flows, &[0, 188_297, 188_297, 0], factors)
+    let distances = &[0, 188_297, 188_297, 0];
+    instance(alloc, 2, flows, distances, factors, &Terms::with_fixed(0))
 }
 
 /// Three nodes in a line, ten units of flow each way between its ends.
@@ -29,7 +30,24 @@ pub(crate) fn line_of_three(alloc: Global) -> Result<Instance, Fail> {
     };
     let flows = &[0, 0, 10_000_000, 0, 0, 0, 10_000_000, 0, 0];
     let distances = &[0, 10_000, 20_000, 10_000, 0, 10_000, 20_000, 10_000, 0];
-    instance(alloc, 3, flows, distances, factors)
+    instance(alloc, 3, flows, distances, factors, &Terms::with_fixed(0))
+}
+
+/// Three nodes as far from one another, one unit of flow from the first to the second, and no route longer than one and a
+/// half times this.
+pub(crate) fn limited_triangle(alloc: Global) -> Result<Instance, Fail> {
+    let factors = Factors {
+        collect: 1000,
+        trunk: 1000,
+        deliver: 1000,
+    };
+    let flows = &[0, 1_000_000, 0, 0, 0, 0, 0, 0, 0];
+    let distances = &[0, 10_000, 10_000, 10_000, 0, 10_000, 10_000, 10_000, 0];
+    let terms = Terms {
+        longest: Some(15_000),
+        ..Terms::with_fixed(0)
+    };
+    instance(alloc, 3, flows, distances, factors, &terms)
 }
 
 fn instance(
@@ -38,12 +56,15 @@ fn instance(
     flows: &[i128],
     distances: &[i128],
     factors: Factors,
-) -> Result<Instance, Fail> {
+    terms: &Terms,
+) -> Result<Instance, Fail>
+    requires { terms.now.hubs ≡ None }
+{
     let flows = flows.to_vec(alloc)?;
     let distances = distances.to_vec(alloc)?;
     let parts = Parts::new(size, flows, distances, factors, None, None);
     let parts = parts.ok_or("outside the limits")?;
-    Ok(Instance::build(alloc, parts, &Terms::with_fixed(0), None)?)
+    Ok(Instance::build(alloc, parts, terms, None)?)
 }
 
 /// The set of the first node.

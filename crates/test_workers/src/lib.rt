@@ -1,9 +1,10 @@
-//! Tests of what holds threads: workers on a board, in a crew, at a separation, and in a search by rounds.
+//! Tests of threads: boards, pools, separation and rounds by several workers.
 //!
 //! - `boards`: of `claim_board`
 //! - `crews`: of `crew`
 //! - `separations`: of `par_separate`
 //! - `rounds`: of `node_rounds`
+//! - `prices`: of `value_cuts`
 //! - `gates`: gates at which two workers wait for one another
 //! - `instances`: what is separated
 #![tactic(auto)]
@@ -16,6 +17,8 @@ mod crews;
 mod gates;
 #[cfg(test)]
 mod instances;
+#[cfg(test)]
+mod prices;
 #[cfg(test)]
 mod rounds;
 #[cfg(test)]

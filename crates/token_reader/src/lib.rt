@@ -1,4 +1,4 @@
-//! The reader of an instance file's tokens, one by one, for any layout.
+//! Reads the tokens of an instance file one by one, each as what its layout expects, or its fault.
 //!
 //! A [`Reader`] gives each token as what it is to be, or its fault. `specs/` says what is still unread and what is
 //! wrong with the next tokens; `proofs/Stretches` and `proofs/Stages` bring that to the contents or the first fault

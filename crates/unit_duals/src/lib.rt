@@ -1,4 +1,5 @@
-//! The minimal duals of all commodities of an origin, by unit of flow, for a hub set and an order of places.
+//! The minimal duals of all commodities of one origin, per unit of flow, for a hub set and an order of the other
+//! candidates.
 //!
 //! It knows no instance: lengths come in as tables of legs between stops, the places of an order and then the hubs.
 //! In the order of reading: `legs` (the tables that come in), `hops` (the shortest routes by hubs alone, for an

@@ -1,13 +1,15 @@
-//! Exact cuts from any values of the candidates.
+//! The Benders cut of any dual values, made feasible: each price is lowered to what allowed routes permit, by one worker or
+//! several.
 //!
-//! A search without proofs may advise values for each commodity, found in whatever way. Here the price of each
-//! commodity is lowered to what its values allow on allowed routes, so that its dual is feasible by construction, and the duals of all
-//! commodities are a cut of the instance, within its sums (`laws`). Nothing of the advice is trusted.
+//! A search without proofs may advise values for each commodity, found in whatever way. Here the price of each commodity is
+//! lowered to what its values allow on allowed routes, so that its dual is feasible by construction, and the duals of all
+//! commodities are a cut of the instance, within its sums (`laws`). Nothing of the advice is trusted. Workers side by side
+//! set the prices that one worker sets, whatever their number and however their threads run.
 //!
-//! `CandidateLegs` are an instance's tables, made once (`leg_tables`); `Values` is where the advice stands, a row of
-//! small numbers for each commodity. `pricing` finds the prices, `allowed` where the length of routes is limited, `sums` the total and the loads of the cut, `duals` lends
-//! its duals one by one as a certificate lists them. A place is the number of a candidate in their order, from 0.
-//! Lengths and values by unit of flow are in 10^-6, costs in 10^-12.
+//! In the order of reading: `values` (a row of small numbers for each commodity, over the tables of `leg_tables`), `pricing`
+//! (the prices), `allowed` (the same where the length of routes is limited), `origins`, `rows` and `workers` (a row of prices
+//! for each origin, by a crew), `sums` (total and loads of the cut), `duals` (its duals, lent one by one). A place is the
+//! number of a candidate in their order, from 0. Lengths and values by unit of flow are in 10^-6, costs in 10^-12.
 #![tactic(auto)]
 
 mod allowed;

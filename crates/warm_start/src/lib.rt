@@ -1,5 +1,4 @@
-//! The start of a search from an older certificate: [`start_of`] gives its cuts and its hubs to a search, which may be of
-//! another instance of the same network.
+//! The start of `resolve` from an older certificate: its cuts and its hubs.
 //!
 //! Which certificates have cuts of the instance is for `cert_checker` to say: `check_cuts` and `read_older`.
 #![tactic(auto)]

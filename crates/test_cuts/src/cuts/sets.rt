@@ -1,12 +1,12 @@
-//! What is asked of a hub set: the assignment to it (`assign_sub`), and cuts and duals of it.
+//! What is asked of a hub set: what it lacks, the assignment to it (`assign_sub`), and cuts and duals of it.
 
 ghost use Rattle.hub_spec.specs.Plans.{IsHubSet};
 ghost use Rattle.hub_spec.specs.Separation.{IsOrder};
 
-use super::{cuts, edges, origins};
+use super::{cores, cuts, edges, origins};
 use assign_sub::{assign, set_cost};
 use hub_model::Instance;
-use hub_plain::{is_hub_set, outside};
+use hub_plain::{is_candidate_set, is_hub_set, outside};
 use pareto_cuts::order_of;
 use plan_model::HubSet;
 use std::alloc::{AllocError, Global};
@@ -15,11 +15,26 @@ use test_lines::{first, list, node};
 /// What is asked of the hubs that the line names.
 pub fn asked(alloc: Global, instance: &Instance, line: &str) -> Result<String, AllocError> {
     let hubs = list::<u32>(alloc, line, " hubs ")?;
+    if first(line) == "lacking" {
+        return lacked(alloc, instance, &hubs);
+    }
     if !is_hub_set(instance, &hubs) {
         return String::from_str(alloc, "no hub set");
     }
     let set = HubSet::of(alloc, &hubs)?;
     of_set(alloc, instance, &set, line)
+}
+
+/// The first commodity that the hubs lack, by each of three calls.
+fn lacked(alloc: Global, instance: &Instance, hubs: &[u32]) -> Result<String, AllocError> {
+    if !is_candidate_set(instance, hubs) {
+        return String::from_str(alloc, "no candidates");
+    }
+    let plain = hub_plain::lacking(instance, hubs);
+    let fast = limited_duals::lacking(instance, hubs);
+    let set = HubSet::of(alloc, hubs)?;
+    let of_set = assign_sub::lacking(instance, &set);
+    format!(in alloc; "{plain:?} {fast:?} {of_set:?}")
 }
 
 fn of_set(
@@ -33,6 +48,7 @@ fn of_set(
     match first(line) {
         "assign" => assigned(alloc, instance, set),
         "order" => ordered(alloc, instance, set, line),
+        "core_cut" => cores::cut(alloc, instance, set),
         _ => over_order(alloc, instance, set, line),
     }
 }
@@ -93,6 +109,7 @@ fn of_order(
     }
     match first(line) {
         "cut" => cuts::cut(alloc, instance, set, order),
+        "core_dual" => cores::dual(alloc, instance, set, i, j),
         "row_dual" => edges::dual(alloc, instance, set, order, i, j),
         "strong_dual" => cuts::dual(alloc, instance, set, order, i, j),
         _ => origins::separation(alloc, instance, set, order, i, j),

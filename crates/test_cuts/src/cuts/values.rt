@@ -8,7 +8,7 @@ use super::texts::{dual_told, sums_told};
 use hub_model::Instance;
 use std::alloc::{AllocError, Global};
 use test_lines::{list, node};
-use value_cuts::{CandidateLegs, DualScratch, PriceScratch, Values, cut_sums, price};
+use value_cuts::{CandidateLegs, DualScratch, PriceScratch, Values, cut_sums, price, set_prices};
 
 /// What is asked of one row of values in a unit, which has a value for each candidate.
 pub fn asked(alloc: Global, instance: &Instance, line: &str) -> Result<String, AllocError> {
@@ -23,21 +23,44 @@ pub fn asked(alloc: Global, instance: &Instance, line: &str) -> Result<String, A
     if line.starts_with("value_dual") {
         return of_commodity(alloc, instance, i, j, unit, &row);
     }
-    with_row(alloc, instance, unit, &row)
+    let values = with_row(alloc, instance, unit, &row)?;
+    if line.starts_with("value_prices") {
+        return prices(alloc, instance, &values);
+    }
+    copied(alloc, instance, &values)
 }
 
-/// The sums of the cut that has this row for each commodity.
+/// Values that have this row for each commodity.
 fn with_row(
     alloc: Global,
     instance: &Instance,
     unit: u32,
     row: &[u32],
-) -> Result<String, AllocError>
+) -> Result<Values, AllocError>
     requires { 1 ≤ length row.now }
+    ensures { IfOk result (AreValuesFor instance.now) }
 {
     let mut values = Values::new(alloc, instance, unit)?;
     fill_all(&mut values, row);
-    copied(alloc, instance, &values)
+    Ok(values)
+}
+
+/// The prices of all commodities by unit of flow.
+fn prices(alloc: Global, instance: &Instance, values: &Values) -> Result<String, AllocError>
+    requires { AreValuesFor instance.now values.now }
+{
+    let tables = CandidateLegs::new(alloc, instance)?;
+    prices_by(alloc, &tables, values)
+}
+
+fn prices_by(alloc: Global, tables: &CandidateLegs, values: &Values) -> Result<String, AllocError>
+    requires { AreValuesFor tables.now values.now }
+{
+    let size = tables.instance().size() as usize;
+    let mut scratch = PriceScratch::new(alloc, tables)?;
+    let mut prices = vec![in alloc; 7; size * size]?;
+    set_prices(tables, values, &mut scratch, &mut prices);
+    format!(in alloc; "{prices:?}")
 }
 
 /// The sums of the cut of a copy of the values.

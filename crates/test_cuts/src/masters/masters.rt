@@ -1,6 +1,6 @@
 //! Masters of branches, and what they advise.
 
-ghost use Rattle.std.specs.Prelude.{◌≡◌, ◌<◌, ◌≤◌, length, map, max, All, IsTrue};
+ghost use Rattle.std.specs.Prelude.{◌≡◌, ◌<◌, ◌≤◌, length, map, max, All, IsTrue, IfOk};
 ghost use Rattle.frac_master.specs.Masters.{AreMasterNumbers, AreWithinTotals, candidates_of};
 
 use super::fields::{Lent, branch, cuts_of, parted};
@@ -37,7 +37,8 @@ fn first(alloc: Global, lent: &Lent, branch: &Branch) -> Result<Option<String>, 
     if !is_master(lent, branch) {
         return Ok(None);
     }
-    let rows = rows_of(alloc, &lent.totals, &lent.loads, &lent.fixed, branch)?;
+    let loads = views(alloc, &lent.loads)?;
+    let rows = rows_of(alloc, &lent.totals, &loads, &lent.fixed, branch)?;
     let mut told = String::new(alloc);
     tables::tell(&mut told, &rows)?;
     Ok(Some(told))
@@ -47,7 +48,8 @@ fn advised(alloc: Global, lent: &Lent, branch: &Branch) -> Result<Option<String>
     if !is_master(lent, branch) {
         return Ok(None);
     }
-    let found = advise(alloc, &lent.totals, &lent.loads, &lent.fixed, branch)?;
+    let loads = views(alloc, &lent.loads)?;
+    let found = advise(alloc, &lent.totals, &loads, &lent.fixed, branch)?;
     Ok(Some(read(alloc, &found)?))
 }
 
@@ -59,15 +61,8 @@ fn advised_by_totals(
     if !is_master(lent, branch) || !are_within(&lent.totals, &lent.loads) {
         return Ok(None);
     }
-    let found = advise_by_totals(
-        alloc,
-        &lent.totals,
-        &lent.loads,
-        None,
-        0,
-        &lent.fixed,
-        branch,
-    )?;
+    let loads = views(alloc, &lent.loads)?;
+    let found = advise_by_totals(alloc, &lent.totals, &loads, None, 0, &lent.fixed, branch)?;
     Ok(Some(read(alloc, &found)?))
 }
 
@@ -82,6 +77,17 @@ fn read(alloc: Global, found: &Advice) -> Result<String, AllocError> {
     format!(in alloc;
         "weights {weights:?}, point {point:?} of {scale}, {ended:?} after {pivots} pivots\n"
     )
+}
+
+// The rows, each lent.
+fn views(alloc: Global, rows: &[Vec<u128>]) -> Result<Vec<&[u128]>, AllocError>
+    ensures { IfOk result (λ views. map (λ row. row.now) views.items ≡ map (λ v. v.items) rows.now) }
+{
+    let mut views = Vec::with_capacity(alloc, rows.len())?;
+    for row in rows {
+        views.push(row.as_slice())?;
+    }
+    Ok(views)
 }
 
 // Whether these are the numbers of a master for the branch.

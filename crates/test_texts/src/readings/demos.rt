@@ -1,7 +1,7 @@
 //! Made-up instances, and the lines of a demonstration.
 
-use hub_make::{made_instance, put_demo};
 use hub_io::{Failed, MemSink};
+use hub_make::{made_instance, put_demo};
 use hub_model::Instance;
 use std::alloc::{AllocError, Global};
 use test_lines::{Wrong, comma_list};

@@ -9,7 +9,7 @@ pub returns : goal.returns
 returns c =
     let before = c.args.progress.now in
     let few : length before.pool.entries < most_cuts = omega (arith, c.len.ensures, c.if-len.false) in
-    let size : c.size.result ≡ c.args.task.now.instance.now.size = c.size.ensures.value in
+    let size : c.size-size.result ≡ c.args.task.now.instance.now.size = c.size-size.ensures.value in
     let added = subst (λ (n : ℕ). c.add_given.new.self.entries ≡ before.pool.entries ++ given_entry n c.args.cut ∷ []) size
     (on_ok_at c.add_given.result (search rules) c.add_given.ensures.added) in
     record {

@@ -11,5 +11,5 @@ returns-clause-done c =
 
 pub returns-clause-last : goal.returns-clause-last
 returns-clause-last c =
-    line_last c.args.task.now c.args.branch.now c.args.progress.now _ c.args.line c.args.progress.now.made
+    line_last c.args.task.now c.args.branch.now c.args.progress.now (record c.args.progress.now { lines = c.add_line.new.lines }) c.args.line c.args.progress.now.made
     (record { cuts = refl; lines = c.in_ok-add_line.ensures.added; hubs = refl; cost = refl; made = refl; stopped = refl; left = refl })

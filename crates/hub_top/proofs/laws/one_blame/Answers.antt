@@ -1,4 +1,4 @@
-use Rattle.hub_top.proofs.OneReading.{one_blame_of}
+use Rattle.hub_sources.proofs.OneReading.{one_blame_of}
 use Rattle.hub_top.proofs.laws.one_blame.Goals as goal
 
 pub returns : goal.returns

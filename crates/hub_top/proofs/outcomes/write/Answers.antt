@@ -1,6 +1,7 @@
 use Rattle.std.proofs.Common.{ℕ, refl}
 use Rattle.hub_top.specs.Outcomes.{answered, usage, no_network}
-use Rattle.hub_top.specs.Views.{answer_status, answer_text, finding_status, halted}
+use Rattle.hub_top.specs.Views.{answer_status, answer_text, halted}
+use Rattle.hub_searches.specs.Statuses.{finding_status}
 use Rattle.cert_scan.specs.Versions.{version_number}
 use Rattle.proof_text.specs.Texts.{found_text}
 use Rattle.hub_top.proofs.Writing.{written_out, written_err, halt_puts_nothing}

@@ -3,7 +3,7 @@ use Rattle.hub_io.specs.Outside.{Puts}
 use Rattle.hub_model.specs.Faults.{fault_of}
 use Rattle.hub_model.specs.declared.faults.InstanceFault.{InstanceFault}
 use Rattle.hub_top.specs.Texts.{fault_text}
-use Rattle.hub_top.specs.Blames.{blame_of}
+use Rattle.hub_sources.specs.Blames.{blame_of}
 use Rattle.hub_top.proofs.texts.put_fault.Goals as goal
 
 pub returns-in-BadNumber : goal.returns-in-BadNumber

@@ -3,9 +3,10 @@ use Rattle.std.specs.Prelude.{IfSome}
 use Rattle.hub_words.specs.Requests.{IsSearch, IsSolving, solve, demo, search_of, solved}
 use Rattle.hub_words.specs.Views.{making_seen, request_of, search_seen, solving_of}
 use Rattle.hub_words.specs.declared.requests.Command.{Command}
-use Rattle.hub_top.specs.Solving.{ComesTo, IsSolution}
-use Rattle.hub_top.proofs.Searched.{demo_answers, made_size}
-use Rattle.hub_top.proofs.Solutions.{found_proved, solve_answers}
+use Rattle.hub_searches.specs.Solving.{ComesTo, IsSolution}
+use Rattle.hub_searches.proofs.Searched.{made_size}
+use Rattle.hub_top.proofs.Solved.{demo_answers, solve_answers}
+use Rattle.hub_searches.proofs.Solutions.{found_proved}
 use Rattle.hub_top.proofs.top.answer.Goals as goal
 
 pub returns-in-Found-clause-may : goal.returns-in-Found-clause-may

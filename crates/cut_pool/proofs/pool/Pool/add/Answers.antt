@@ -6,11 +6,11 @@ use Rattle.cut_pool.specs.PoolCuts.{sets_of}
 use Rattle.cut_pool.specs.Ordered.{IsIndex}
 use Rattle.cut_pool.specs.PoolParts.{spare_of, state_of}
 use Rattle.cut_pool.proofs.Grown.{HasGrown, spare_number, pool_more, entries_more, spare_more, none_of_these, on_ok_at}
-use Rattle.cut_pool.proofs.Entered.{length-entries, pool_columns}
+use Rattle.cut_pool.proofs.Entered.{length-entries}
 use Rattle.cut_pool.proofs.ShortRows.{short_more}
 use Rattle.cut_pool.proofs.UnitSums.{whole_row, units_more, most_more}
 use Rattle.cut_pool.proofs.pool.Pool.add.Goals as goal
-use Rattle.cut_pool.proofs.pool.Pool.add.Goals.{After-put}
+use Rattle.cut_pool.proofs.pool.Pool.add.Goals.{After-put-2}
 
 some_same : (xs ys : List ℕ) → Some xs ≡ Some ys → xs ≡ ys
 some_same xs ys h = cc
@@ -23,13 +23,13 @@ index_next-requires-clause-first_time c = λ hubs of.
     (subst (Lacks (state_of c.self.inside).entries) (sym c.into_parts-set.ensures.set ∙ some_same c.into_parts-set.result.0 hubs of)
     (rw entries c.requires))
 
-grown : (c : After-put)
+grown : (c : After-put-2)
     → HasGrown c.self.inside
     (record {
-      cuts = c.put.new.self;
+      cuts = c.put-2.new.self;
       by_set = c.index_next.new.by_set;
       short = c.with_cut.result;
-      units = c.enter.new.kept;
+      units = c.put.new.self;
       most_load = c.self.inside.most_load;
     })
     (entry_of c.args.cut c.args.order.items)
@@ -39,9 +39,8 @@ grown c =
     let e = entry_of c.args.cut c.args.order.items in
     let sums = c.into_parts-set.ensures in
     let row = sym (whole_row c.args.cut.loads) in
-    let entered = on_ok_at c.enter.result (sym c.is_err-2.ensures.value ∙ c.if-is_err-2.false) c.enter.ensures.entered in
     record {
-      kept = c.put.ensures.kept
+      kept = c.put-2.ensures.kept
           ∙ (λ i. record {
             cuts = s.cuts.kept.cuts ++ by_set (sums.set i) c.args.order.items ∷ [];
             totals = s.cuts.kept.totals ++ sums.total i ∷ [];
@@ -50,19 +49,19 @@ grown c =
       short = short_more es e s.short c.take.result c.with_cut.result (c.len-place.result == 0) c.deref.result.now c.self.invariant.short
           c.take.ensures.value c.with_cut.ensures (ap (λ n. n == 0) (c.len-place.ensures ∙ sym (length-entries s c.self.invariant)))
           (c.deref.ensures.value ∙ sums.loads ∙ row);
-      units = units_more es e s.cuts.kept s.units c.enter.new.kept 1 _ _ c.self.invariant.units (pool_columns s c.self.invariant) entered refl
-          (c.total-total.ensures ∙ sym (div-one c.args.cut.total)) (c.loads-loads.ensures ∙ row);
+      units = units_more es e s.units _ _ _ c.self.invariant.units c.put.ensures.totals c.put.ensures.rows
+          (sums.total ∙ sym (div-one c.args.cut.total)) c.new-row.ensures.items;
       greatest = let more = most_more es e in omega (arith, more, c.self.invariant.greatest);
     }
 
-entries_before : (c : After-put) → (state_of c.self.inside).entries ≡ c.args.self.now.entries
+entries_before : (c : After-put-2) → (state_of c.self.inside).entries ≡ c.args.self.now.entries
 entries_before c = ap (λ (p : PoolState). p.entries) c.self.view_is ∙ c.reserve.ensures.entries
 
-pub invariant_of-self-2 : goal.invariant_of-self-2
-invariant_of-self-2 c =
+pub invariant_of-self : goal.invariant_of-self
+invariant_of-self c =
     let s = c.self.inside in
     let hubs = c.args.cut.hubs in
-    let after = (goal.at.invariant_of-self-2 c).After-put in
+    let after = (goal.at.invariant_of-self c).After-put-2 in
     let lacks : Lacks (state_of s).entries hubs = rw (entries_before after) c.requires in
     let more : 1 ≤ c.reserve.new.self.spare =
     on_ok_at c.reserve.result (sym c.is_err.ensures.value ∙ c.if-is_err.false) c.reserve.ensures.spare in
@@ -78,17 +77,17 @@ pub returns-clause-number : goal.returns-clause-number
 returns-clause-number c =
     ap (λ n. n + 1)
     (c.len-place.ensures ∙ sym (length-entries c.self.inside c.self.invariant)
-    ∙ ap length (entries_before (goal.at.returns-clause-number c).After-put))
+    ∙ ap length (entries_before (goal.at.returns-clause-number c).After-put-2))
 
 pub returns-clause-added : goal.returns-clause-added
 returns-clause-added c =
-    let after = (goal.at.returns-clause-added c).After-put in
+    let after = (goal.at.returns-clause-added c).After-put-2 in
     entries_more _ _ (entry_of c.args.cut c.args.order.items) c.self.invariant (grown after)
     ∙ ap (λ es. es ++ entry_of c.args.cut c.args.order.items ∷ []) (entries_before after)
 
 pub returns-clause-spare : goal.returns-clause-spare
 returns-clause-spare c =
-    let after = (goal.at.returns-clause-spare c).After-put in
-    let more = spare_more _ _ (entry_of c.args.cut c.args.order.items) c.self.invariant (grown after) c.put.ensures.spare c.index_next.ensures.room in
+    let after = (goal.at.returns-clause-spare c).After-put-2 in
+    let more = spare_more _ _ (entry_of c.args.cut c.args.order.items) c.self.invariant (grown after) c.put-2.ensures.spare c.index_next.ensures.room c.put.ensures.spare in
     let before : spare_of c.self.inside ≡ c.reserve.new.self.spare = ap (λ (p : PoolState). p.spare) c.self.view_is in
     omega (arith, c.reserve.ensures.kept, before, more)

@@ -1,14 +1,30 @@
-use Rattle.std.proofs.Common.{ap, sym, ◌∙◌}
+use Rattle.std.proofs.Common.{◌≡◌, ◌++◌, ◌∷◌, [], ◌<◌, ℕ, List, Bor, length, map, sym, ap, ap₂, subst, ◌∙◌, arith}
+use Rattle.std.proofs.Math.Seq.{take_all}
+use Rattle.std.proofs.lemmas.List.{length-map, map_push}
 use Rattle.cut_pool.specs.Entries.{PoolState, unit_loads}
-use Rattle.cut_pool.specs.PoolParts.{state_of}
-use Rattle.cut_pool.proofs.Entered.{pool_columns}
-use Rattle.cut_pool.proofs.UnitSums.{whole_loads}
+use Rattle.cut_pool.specs.Shorts.{unit_row}
+use Rattle.cut_pool.proofs.Entered.{length-entries}
+use Rattle.cut_pool.proofs.UnitSums.{loads_taken}
 use Rattle.cut_pool.proofs.pool.Pool.unit_loads.Goals as goal
 
-pub returns-in-None : goal.returns-in-None
-returns-in-None c =
-    let s = c.self.inside in
-    let whole = c.self.invariant.units.none c.in-None.is in
-    c.loads-in-None.ensures.value
-    ∙ sym (pool_columns s c.self.invariant).loads ∙ sym (whole_loads (state_of s).entries whole)
-    ∙ ap (λ (p : PoolState). unit_loads p.entries) c.self.view_is
+pub unit_row-requires : goal.unit_row-requires
+unit_row-requires c =
+    subst (λ (p : PoolState). c.loop-place.place < length p.entries) c.self.view_is
+    (omega (arith, c.loop-place-test.true, c.len-place-end.ensures, length-entries c.self.inside c.self.invariant))
+
+pub loop-place-preserved : goal.loop-place-preserved
+loop-place-preserved c =
+    let low = subst (λ (p : PoolState). c.loop-place.place < length p.entries) c.self.view_is
+    (omega (arith, c.loop-place-test.true, c.len-place-end.ensures, length-entries c.self.inside c.self.invariant)) in
+    let row = λ (r : Bor (List ℕ)). r.now in
+    ap (map row) c.in_ok-push.ensures.items ∙ map_push row c.loop-place.rows.items c.unit_row.result
+    ∙ ap₂ (λ (xs : List (List ℕ)) (x : List ℕ). xs ++ x ∷ []) c.loop-place.invariant c.unit_row.ensures
+    ∙ sym (loads_taken c.args.self.now.entries c.loop-place.place low)
+
+pub returns : goal.returns
+returns c =
+    let es = c.args.self.now.entries in
+    let long = ap (λ (p : PoolState). length p.entries) c.self.view_is in
+    c.loop-place.invariant
+    ∙ take_all c.loop-place.place (unit_loads es)
+    (omega (arith, c.loop-place-test.false, c.len-place-end.ensures, length-entries c.self.inside c.self.invariant, long, length-map es unit_row))

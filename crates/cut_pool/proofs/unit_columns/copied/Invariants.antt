@@ -1,5 +1,0 @@
-use Rattle.std.proofs.Common.{◌≡◌, map, take}
-use Rattle.cut_pool.proofs.unit_columns.copied.Given as goal
-
-abbrev pub invariant-loop-row : goal.invariant-loop-row
-invariant-loop-row l = map (λ v. v.items) l.copies.items ≡ map (λ v. v.items) (take l.row-index l.rows)

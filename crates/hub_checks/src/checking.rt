@@ -1,0 +1,62 @@
+//! The command `check`: an instance and a certificate from their files to a verdict.
+
+ghost use Rattle.std.specs.Prelude.{◌≡◌, ◌⊎◌, IfOk, IfErr};
+ghost use Rattle.hub_io.specs.Outside.{BeginsOnly};
+ghost use Rattle.cert_checker.specs.Shows.{verdict_of};
+ghost use Rattle.hub_words.specs.Requests.{AreSources, AsksListed};
+ghost use Rattle.hub_words.specs.Views.{source_of};
+ghost use Rattle.hub_checks.specs.Checks.{JudgesFile, LacksCertificate};
+ghost use Rattle.hub_sources.specs.Sources.{LacksSource};
+ghost use Rattle.hub_sources.specs.Named.{IsFileOf};
+ghost use Rattle.hub_sources.specs.Shelves.{FailsFor, StaysShelf};
+ghost use Rattle.hub_sources.specs.Halts.{Halts, IsOfSource};
+ghost use Rattle.hub_checks.specs.Judging.{IsNoFault, IsVerdictOn};
+ghost use Rattle.hub_sources.specs.Told.{LacksFile};
+
+use cert_checker::Ending;
+use hub_io::Shelf;
+use hub_model::Instance;
+use hub_sources::{Halt, read_instance};
+use hub_words::Source;
+use std::alloc::Global;
+use stream_check::{NoEnding, check_held};
+
+/// The ending of a check of the certificate of this file against the instance that the source names.
+pub fn check<S: Shelf>(
+    alloc: Global,
+    source: &Source<'_>,
+    certificate: &str,
+    shelf: &mut S,
+) -> Result<Ending, Halt>
+    requires sources { AreSources (source_of source.now) }
+    requires listed { AsksListed (source_of source.now) }
+    ensures judged { IfOk result (λ e. JudgesFile (S.held shelf.old) (source_of source.now) certificate.now (verdict_of e)) }
+    ensures halted { IfErr result (Halts (IsOfSource (S.held shelf.old) (source_of source.now))
+        (FailsFor S.held S.faults S.sound shelf.old shelf.new
+        (λ files. LacksSource files (source_of source.now) ⊎ LacksCertificate files (source_of source.now) certificate.now))) }
+    ensures stays { StaysShelf S.held S.faults S.sound shelf.old shelf.new }
+    ensures begins { BeginsOnly (λ name. IsFileOf (source_of source.now) name ⊎ (name ≡ certificate.now)) (S.names shelf.old) (S.names shelf.new) }
+{
+    let instance = read_instance(alloc, source, shelf)?;
+    check_file(alloc, &instance, certificate, shelf)
+}
+
+/// The ending of a check of the certificate of this file, of which no more than a piece is held at a time.
+fn check_file<S: Shelf>(
+    alloc: Global,
+    instance: &Instance,
+    certificate: &str,
+    shelf: &mut S,
+) -> Result<Ending, Halt>
+    ensures judged { IfOk result (λ e. IsVerdictOn instance.now (S.held shelf.old) certificate.now (verdict_of e)) }
+    ensures halted { IfErr result (Halts IsNoFault
+        (FailsFor S.held S.faults S.sound shelf.old shelf.new (LacksFile certificate.now))) }
+    ensures stays { StaysShelf S.held S.faults S.sound shelf.old shelf.new }
+    ensures begins { BeginsOnly (λ name. name ≡ certificate.now) (S.names shelf.old) (S.names shelf.new) }
+{
+    match check_held(alloc, shelf, certificate, instance) {
+        Ok(ending) => Ok(ending),
+        Err(NoEnding::ReadFault) => Err(Halt::Read),
+        Err(NoEnding::OutOfMemory) => Err(Halt::Memory),
+    }
+}

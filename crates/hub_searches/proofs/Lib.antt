@@ -1,0 +1,9 @@
+pub mod FoundFrom
+pub mod RuleCertificates
+pub mod Searched
+pub mod Optimized
+pub mod Solutions
+pub mod Spelled
+pub mod Versions
+pub mod Networks
+pub mod OlderCertificates

@@ -1,0 +1,139 @@
+-- What a search of an instance found, as the top call has it.
+use Rattle.std.specs.Prelude.{◌≡◌, ℕ, ◌+◌, ◌^◌, ◌<◌, ◌≤◌, List, length, Option, Some, None, ◌⊎◌}
+use Rattle.std.specs.List.{AllZip}
+use Rattle.hub_io.specs.Outside.{Files}
+use Rattle.hub_spec.specs.Problem.{Problem, IsProblem, commodities}
+use Rattle.hub_spec.specs.Plans.{IsHubSet, IsLeastRoute}
+use Rattle.search_spec.specs.Findings.{AreWithin, IsSpent, certificate_of}
+use Rattle.search_spec.specs.Again.{start_of, IsStartOf}
+use Rattle.search_spec.specs.Costs.{IsAtMostOf, first_hubs}
+use Rattle.cert_spec.specs.Stated.{Stated}
+use Rattle.cert_spec.specs.Verdicts.{Older, serves}
+use Rattle.cert_checker.specs.Shows.{verdict_of}
+use Rattle.cert_checker.specs.declared.texts.Ending.{Ending}
+use Rattle.cut_pool.specs.Findings.{IsProved, AreRemade, proof_of}
+use Rattle.search_progress.specs.Findings.{IsFound}
+use Rattle.closing_search.specs.Gaps.{IsWithinGap}
+use Rattle.closing_search.specs.Progressing.{IsBestBound}
+use Rattle.search_core.specs.Starts.{start_seen}
+use Rattle.hub_words.specs.Requests.{node_by_node, by_core_cuts, by_rounds, How, follow, again, freely, older_named, Search, Solving}
+use Rattle.hub_words.specs.Views.{rule_seen}
+use Rattle.hub_searches.specs.declared.searching.Course.TheVariants.{Cold, Warm}
+use Rattle.hub_searches.specs.declared.solving.Solved.{Solved}
+use Rattle.hub_searches.specs.declared.preparing.Reading.{Reading}
+use Rattle.hub_searches.specs.declared.preparing.Prepared.{Prepared}
+use Rattle.hub_checks.specs.declared.status.Status.TheVariants.{No}
+use Rattle.hub_searches.specs.Methods.{Course, cold, warm}
+use Rattle.hub_searches.specs.Searches.{found_from, IsEnoughFor}
+use Rattle.hub_searches.specs.Older.{HoldsOlder, BegunAt}
+use Rattle.hub_searches.specs.Instances.{RefusesOlder, LacksNetwork}
+use Rattle.hub_checks.specs.Lines.{verdict_text, older_line}
+use Rattle.hub_checks.specs.Statuses.{verdict_status}
+use Rattle.hub_sources.specs.Building.{KeepsLimits}
+use Rattle.hub_sources.specs.Told.{ToldInstance}
+use Rattle.cut_pool.specs.declared.found.Found as finding
+use Rattle.hub_searches.specs.declared.searching.Course as code
+use Rattle.hub_searches.specs.declared.solving.Solved.TheVariants as solved
+use Rattle.hub_searches.specs.declared.preparing.Reading.TheVariants as reading
+use Rattle.hub_searches.specs.declared.preparing.Prepared.TheVariants as prepared
+
+-- how the code has a search go
+abbrev pub course_seen : code.Course → Course
+course_seen (Cold rule) = cold (rule_seen rule)
+course_seen (Warm start) = warm (start_seen start)
+
+-- a search of the problem may go so: by rounds any number of hubs will do, and what it begins again with is a start of the problem
+abbrev pub MayGo : Problem → Course → Type 0
+MayGo p (cold node_by_node) = Unit {0}
+MayGo p (cold by_core_cuts) = Unit {0}
+MayGo p (cold by_rounds) = p.wanted ≡ None
+MayGo p (warm start) = IsStartOf p start
+
+-- the cuts of a search that goes so are all made anew: none is given, and none a core cut
+abbrev pub IsRemadeCourse : Course → Type 0
+IsRemadeCourse (cold node_by_node) = Unit {0}
+IsRemadeCourse (cold by_core_cuts) = ⊥
+IsRemadeCourse (cold by_rounds) = Unit {0}
+IsRemadeCourse (warm start) = ⊥
+
+-- it is what the rule finds that goes so, with so many nodes at most, in each version; all candidates together lack no
+-- commodity; where no cuts are given and core cuts are not asked for, each of its cuts is made anew
+pub record IsSearched (p : Problem) (nodes : Option ℕ) (course : Course) (found : finding.Found) : Type 0 where
+  pub problem : IsProblem p
+  pub lacks_none : IsHubSet p p.candidates
+  pub may_go : MayGo p course
+  pub finding : IsFound p (found_from p nodes course) found
+  pub proved : IsProved p found
+  pub remade : IsRemadeCourse course → AreRemade found
+  pub certificate : (version : ℕ) → proof_of version p found (found_from p nodes course).tree ≡ certificate_of p version (found_from p nodes course)
+
+-- it is a proved network of the problem, with least routes, that costs at most what all candidates do, or as many of the least as are
+-- wanted, with no more nodes than are allowed and than a whole tree has; its bound is below its cost, and not within the gap, only where two
+-- nodes more are not allowed, and fewer than a whole tree has
+pub record IsClosed (p : Problem) (nodes : Option ℕ) (gap : ℕ) (found : finding.Found) : Type 0 where
+  pub problem : IsProblem p
+  pub proved : IsProved p found
+  pub own : AreRemade found
+  pub routes : AllZip (IsLeastRoute p found.plan.hubs) (commodities p.size) found.plan.routes
+  pub at_most : IsAtMostOf p (first_hubs p) found.cost
+  pub best : IsBestBound p found
+  pub within : found.bound ≤ found.cost
+  pub most : length found.tree.items + 1 ≤ 2 ^ (length p.candidates + 1)
+  pub allowed : AreWithin nodes (length found.tree.items)
+  pub spent : found.bound < found.cost → IsSpent nodes (length found.tree.items) ⊎ IsWithinGap gap found.bound found.cost
+  pub enough : IsEnoughFor p nodes → IsWithinGap gap found.bound found.cost
+
+-- it is what is found for the problem, as it is asked for: by the rule, from the older certificate that is held, or such a network
+abbrev pub IsFoundBy : Option Files → Problem → How → Search → finding.Found → Type 0
+IsFoundBy held p (follow rule) q found = IsSearched p q.nodes (cold rule) found
+IsFoundBy held p (again older) q found =
+    (k : Stated) × HoldsOlder held p (again older) (serves k) × IsSearched p q.nodes (warm (start_of k.proof)) found
+IsFoundBy held p (freely gap from) q found = IsClosed p q.nodes gap found × BegunAt held p (freely gap from) found.cost
+
+-- it is so for the instance of the source
+pub record IsSolution (held : Option Files) (s : Solving) (p : Problem) (found : finding.Found) : Type 0 where
+  pub instance : ToldInstance held s.source p
+  pub limits : KeepsLimits s.source.options p
+  pub found_by : IsFoundBy held p s.how s.search found
+
+-- the ending tells in one line why what is said of an older certificate is not that it serves
+abbrev pub TellsWhy : Older → Ending → Type 0
+TellsWhy said ending = (older_line said ≡ Some (verdict_text (verdict_of ending))) × (verdict_status (verdict_of ending) ≡ No)
+
+-- it is what is found for the instance of the source, or the commodity that all its candidates together lack, or the ending that tells
+-- why the older certificate does not serve
+abbrev pub ComesTo : Option Files → Solving → Solved → Type 0
+ComesTo held s (solved.Found instance found) = IsSolution held s instance found
+ComesTo held s (solved.NoNetwork i j) = LacksNetwork held s.source (i, j)
+ComesTo held s (solved.Refused ending) = (said : Older) × TellsWhy said ending × RefusesOlder held s said
+
+-- what is said of an older certificate is this: it serves, or the ending tells in one line why it does not
+abbrev pub IsReadingAs : Older → Reading → Type 0
+IsReadingAs said (reading.Serves certificate) = said ≡ serves certificate
+IsReadingAs said (reading.Refused ending) = TellsWhy said ending
+
+-- the file that is named holds bytes of which that is said
+pub record IsReadingOf (held : Option Files) (p : Problem) (how : How) (read : Reading) : Type 0 where
+  pub said : Older
+  pub older_held : HoldsOlder held p how said
+  pub reads : IsReadingAs said read
+
+-- a search that is asked for so follows a rule, and goes so
+abbrev pub GoesBy : Option Files → Problem → How → Course → Type 0
+GoesBy held p (follow rule) course = course ≡ cold rule
+GoesBy held p (again older) course =
+    (k : Stated) × HoldsOlder held p (again older) (serves k) × (course ≡ warm (start_of k.proof)) × MayGo p course
+GoesBy held p (freely gap from) course = ⊥
+
+-- what a search that follows no rule may begin with: with nothing where no older certificate is named, or with the one that is held
+-- and serves
+abbrev pub IsBegun : Option Files → Problem → How → Option Stated → Type 0
+IsBegun held p how None = older_named how ≡ None
+IsBegun held p how (Some older) = HoldsOlder held p how (serves older)
+
+-- what is prepared for a search that is asked for so: how it goes by a rule, or that it follows none, up to this gap, and may begin, or
+-- the ending that tells why the older certificate does not serve
+abbrev pub IsPrepared : Option Files → Problem → How → Prepared → Type 0
+IsPrepared held p how (prepared.Ruled course) = GoesBy held p how (course_seen course)
+IsPrepared held p how (prepared.Free gap older) = (from : Option (List ℕ)) × (how ≡ freely gap from) × IsBegun held p how older
+IsPrepared held p how (prepared.Refused ending) = (said : Older) × TellsWhy said ending × HoldsOlder held p how said

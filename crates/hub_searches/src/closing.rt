@@ -1,0 +1,67 @@
+//! The search that follows no rule: a network of an instance whose bound is proved.
+
+ghost use Rattle.std.specs.Prelude.{◌≡◌, IfSome, IfOk};
+ghost use Rattle.hub_spec.specs.Problem.{IsProblem};
+ghost use Rattle.hub_spec.specs.Plans.{IsHubSet};
+ghost use Rattle.search_spec.specs.Costs.{IsAtMostOf};
+ghost use Rattle.hub_words.specs.Requests.{IsGap, IsSearch};
+ghost use Rattle.hub_words.specs.Views.{search_seen};
+ghost use Rattle.hub_searches.specs.Solving.{IsClosed};
+
+use cert_format::Certificate;
+use closing_search::{Task, optimize_within};
+use cut_pool::Found;
+use dual_adviser::Adviser;
+use hub_model::Instance;
+use hub_words::Search;
+use old_duals::first_values;
+use search_advice::Advice;
+use std::alloc::{AllocError, Global};
+use std::thread::Threads;
+
+/// What the search finds for the instance, where all candidates together are feasible for each commodity. The gap that it
+/// may leave is in thousandths of a per cent of the cost. It begins with what the older certificate says, and trusts
+/// nothing of it: where its hubs are a hub set that is wanted, what is found costs at most what they do.
+pub fn close<R: Threads + Sync>(
+    rt: &R,
+    alloc: Global,
+    instance: &Instance,
+    asked: Search,
+    gap: u32,
+    older: Option<Certificate>,
+) -> Result<Found, AllocError>
+    requires problem { IsProblem instance.now }
+    requires asked { IsSearch (search_seen asked) }
+    requires gap { IsGap gap }
+    requires lacks_none { IsHubSet instance.now instance.now.candidates }
+    ensures closed { IfOk result (IsClosed instance.now asked.nodes gap) }
+    ensures given { IfOk result (λ found. IfSome older (λ k. IsAtMostOf instance.now k.proof.plan.hubs found.cost)) }
+{
+    let mut adviser = Adviser::new(alloc, instance, asked.workers)?;
+    let first = match older {
+        Some(certificate) => begin_with(alloc, instance, &certificate, &mut adviser)?,
+        None => Vec::new(alloc),
+    };
+    let task = Task {
+        instance,
+        nodes: asked.nodes,
+        gap,
+        workers: asked.workers,
+        first: &first,
+    };
+    optimize_within(rt, alloc, &task, adviser)
+}
+
+/// Has the advice begin with the values of the older certificate, and gives the hubs of this.
+fn begin_with(
+    alloc: Global,
+    instance: &Instance,
+    older: &Certificate,
+    adviser: &mut Adviser,
+) -> Result<Vec<u32>, AllocError>
+    ensures { IfOk result (λ hubs. hubs.items ≡ older.now.proof.plan.hubs) }
+{
+    let values = first_values(alloc, instance, older.cuts(), adviser.unit())?;
+    adviser.begin_with(&values);
+    older.hubs().to_vec(alloc)
+}

@@ -1,0 +1,137 @@
+//! What a search begins with, as it is asked for: how it goes, and the older certificate that is named.
+
+ghost use Rattle.std.specs.Prelude.{◌≡◌, Some, IfOk, IfErr};
+ghost use Rattle.hub_io.specs.Outside.{BeginsOnly};
+ghost use Rattle.cert_checker.specs.Shows.{older_of};
+ghost use Rattle.hub_words.specs.Requests.{older_named};
+ghost use Rattle.hub_words.specs.Views.{how_seen};
+ghost use Rattle.hub_searches.specs.Older.{IsSaid, LacksNamed};
+ghost use Rattle.hub_sources.specs.Shelves.{FailsFor, StaysShelf};
+ghost use Rattle.hub_sources.specs.Halts.{Halts};
+ghost use Rattle.hub_checks.specs.Judging.{IsNoFault};
+ghost use Rattle.hub_searches.specs.Solving.{IsPrepared, IsReadingAs, IsReadingOf};
+ghost use Rattle.hub_sources.specs.Told.{LacksFile};
+
+use crate::searching::Course;
+use cert_checker::{Ending, MOST_CERTIFICATE_BYTES, Older, read_older};
+use cert_format::Certificate;
+use hub_io::{ReadEnd, Shelf, read_whole};
+use hub_model::Instance;
+use hub_sources::Halt;
+use hub_words::How;
+use old_duals::read_sized;
+use std::alloc::{AllocError, Global};
+use std::thread::Threads;
+use warm_start::start_of;
+
+/// What is prepared for a search.
+#[derive(Drop)]
+pub enum Prepared {
+    /// It follows a rule, and goes so.
+    Ruled(Course),
+    /// It follows no rule, may leave this gap, and begins with what the older certificate says, or with nothing.
+    Free {
+        gap: u32,
+        older: Option<Certificate>,
+    },
+    /// It has nothing to begin with: the older certificate does not serve, for this reason.
+    Refused(Ending),
+}
+
+/// What is prepared for a search of the instance that is asked for so.
+pub fn prepare<R: Threads + Sync, S: Shelf>(
+    rt: &R,
+    alloc: Global,
+    instance: &Instance,
+    how: How<'_>,
+    shelf: &mut S,
+) -> Result<Prepared, Halt>
+    ensures prepared { IfOk result (IsPrepared (S.held shelf.old) instance.now (how_seen how.entry)) }
+    ensures halted { IfErr result (Halts IsNoFault
+        (FailsFor S.held S.faults S.sound shelf.old shelf.new (LacksNamed (older_named (how_seen how.entry))))) }
+    ensures stays { StaysShelf S.held S.faults S.sound shelf.old shelf.new }
+    ensures begins { BeginsOnly (λ name. older_named (how_seen how.entry) ≡ Some name) (S.names shelf.old) (S.names shelf.new) }
+{
+    match how {
+        How::Follow(rule) => Ok(Prepared::Ruled(Course::Cold(rule))),
+        How::Again(name) => match read_named(rt, alloc, instance, how, name, shelf)? {
+            Reading::Serves(older) => Ok(Prepared::Ruled(Course::Warm(start_of(older)))),
+            Reading::Refused(ending) => Ok(Prepared::Refused(ending)),
+        },
+        How::Freely { gap, from } => {
+            let Some(name) = from else {
+                return Ok(Prepared::Free { gap, older: None });
+            };
+            match read_named(rt, alloc, instance, how, name, shelf)? {
+                Reading::Serves(older) => Ok(Prepared::Free {
+                    gap,
+                    older: Some(older),
+                }),
+                Reading::Refused(ending) => Ok(Prepared::Refused(ending)),
+            }
+        }
+    }
+}
+
+/// What the bytes of an older certificate are for an instance.
+#[derive(Drop)]
+enum Reading {
+    /// They spell this certificate, which serves.
+    Serves(Certificate),
+    /// They do not serve, for this reason.
+    Refused(Ending),
+}
+
+/// What the bytes of the older certificate's file, which has this name, are for the instance.
+fn read_named<R: Threads + Sync, S: Shelf>(
+    rt: &R,
+    alloc: Global,
+    instance: &Instance,
+    how: How<'_>,
+    name: &str,
+    shelf: &mut S,
+) -> Result<Reading, Halt>
+    requires { older_named (how_seen how) ≡ Some name.now }
+    ensures read { IfOk result (IsReadingOf (S.held shelf.old) instance.now (how_seen how.entry)) }
+    ensures halted { IfErr result (Halts IsNoFault
+        (FailsFor S.held S.faults S.sound shelf.old shelf.new (LacksFile name.now))) }
+    ensures stays { StaysShelf S.held S.faults S.sound shelf.old shelf.new }
+    ensures begins { BeginsOnly (λ other. other ≡ name.now) (S.names shelf.old) (S.names shelf.new) }
+{
+    match read_whole(alloc, shelf, name, MOST_CERTIFICATE_BYTES as u64) {
+        Ok(bytes) => Ok(reading_of(said_of(rt, alloc, instance, how, &bytes)?)),
+        Err(ReadEnd::TooLong) => Ok(Reading::Refused(Ending::TooLong)),
+        Err(ReadEnd::ReadFault) => Err(Halt::Read),
+        Err(ReadEnd::OutOfMemory) => Err(Halt::Memory),
+    }
+}
+
+/// What is said of the bytes. Where the search is to begin with the cuts of the older certificate, its text, its size line and
+/// each cut are tested for this instance, else its text and its size line alone; never its cost, bound, routes and tree.
+fn said_of<R: Threads + Sync>(
+    rt: &R,
+    alloc: Global,
+    instance: &Instance,
+    how: How<'_>,
+    bytes: &[u8],
+) -> Result<Older, AllocError>
+    ensures { IfOk result (λ said. IsSaid (how_seen how.entry) instance.now bytes.now (older_of said)) }
+{
+    match how {
+        How::Again(_) => read_older(rt, alloc, instance, bytes),
+        How::Follow(_) | How::Freely { .. } => read_sized(alloc, instance, bytes),
+    }
+}
+
+/// What is said of an older certificate, with the ending that tells it where it does not serve.
+fn reading_of(older: Older) -> Reading
+    ensures { IsReadingAs (older_of older) result }
+{
+    match older {
+        Older::Serves(certificate) => Reading::Serves(certificate),
+        Older::ServesNot { kind, line } => Reading::Refused(Ending::No { kind, line }),
+        Older::BadLine { line } => Reading::Refused(Ending::BadLine { line }),
+        Older::Ended { line } => Reading::Refused(Ending::Ended { line }),
+        Older::TooLong => Reading::Refused(Ending::TooLong),
+    }
+}

@@ -1,0 +1,3 @@
+pub mod Halting
+pub mod OneReading
+pub mod Sources

@@ -1,0 +1,85 @@
+//! Prices of all commodities, by workers.
+
+ghost use Rattle.std.specs.Prelude.{◌≡◌, ◌*◌, ◌≤◌, length, IfOk};
+ghost use Rattle.value_cuts.specs.Values.{AreValuesFor};
+ghost use Rattle.value_cuts.specs.HeldRows.{IsSameShape};
+
+use hub_make::made_instance;
+use hub_model::Instance;
+use std::alloc::{AllocError, Global};
+use std::test::Fail;
+use std::thread::Threads;
+use value_cuts::{CandidateLegs, PriceScratch, Values, set_prices, set_prices_by_workers};
+
+// As many nodes as it takes until workers share the prices.
+const SHARED: u32 = 64;
+
+// Values of all commodities by a rule, some of them 0 and some above the legs.
+fn some_values(alloc: Global, instance: &Instance) -> Result<Values, AllocError>
+    ensures { IfOk result (AreValuesFor instance.now) }
+{
+    let mut values = Values::new(alloc, instance, 1000)?;
+    fill(&mut values);
+    Ok(values)
+}
+
+fn fill(values: &mut Values)
+    ensures { IsSameShape values.old values.new }
+{
+    let rows = values.rows_mut();
+    for at in 0..rows.len() {
+        rows[at] = (at % 9973 * 7) as u32;
+    }
+}
+
+fn prices_alone(
+    alloc: Global,
+    tables: &CandidateLegs,
+    values: &Values,
+) -> Result<Vec<u64>, AllocError>
+    requires { AreValuesFor tables.now values.now }
+{
+    let size = tables.instance().size() as usize;
+    let mut scratch = PriceScratch::new(alloc, tables)?;
+    let mut prices = vec![in alloc; 0; size * size]?;
+    set_prices(tables, values, &mut scratch, &mut prices);
+    Ok(prices)
+}
+
+fn prices_by<R: Threads + Sync>(
+    rt: &R,
+    alloc: Global,
+    tables: &CandidateLegs,
+    values: &Values,
+    workers: u32,
+) -> Result<Vec<u64>, AllocError>
+    requires values { AreValuesFor tables.now values.now }
+    requires workers { (1 ≤ workers) × (workers ≤ 64) }
+{
+    let size = tables.instance().size() as usize;
+    let mut scratch = PriceScratch::new(alloc, tables)?;
+    let mut prices = vec![in alloc; 0; size * size]?;
+    set_prices_by_workers(
+        rt,
+        alloc,
+        tables,
+        values,
+        workers,
+        &mut scratch,
+        &mut prices,
+    )?;
+    Ok(prices)
+}
+
+#[test]
+fn one_worker_and_more_find_the_same_prices(rt: HostRuntime) -> Result<(), Fail> {
+    let instance = made_instance(rt.alloc(), 1, SHARED)?;
+    let values = some_values(rt.alloc(), &instance)?;
+    let tables = CandidateLegs::new(rt.alloc(), &instance)?;
+    let alone = prices_alone(rt.alloc(), &tables, &values)?;
+    for workers in [1, 2, 64] {
+        let found = prices_by(&rt, rt.alloc(), &tables, &values, workers)?;
+        assert!(rt; found.len() == 4096 && found == alone);
+    }
+    Ok(())
+}
