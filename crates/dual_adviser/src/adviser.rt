@@ -5,7 +5,7 @@ ghost use denote.Param.Send.{IsSync};
 ghost use Rattle.dual_ascent.specs.Shapes.{cells, shape_of, KeepsShape};
 
 use crate::branching::listed;
-use crate::memory::Memories;
+use crate::memory::Memory;
 use crate::node::Node;
 use crate::progress::Progress;
 use crate::sets::Sets;
@@ -19,10 +19,14 @@ use std::marker::Model;
 use std::thread::Threads;
 use tight_duals::Fitting;
 
+/// So many memories there are at most.
+const MOST_MEMORIES: usize = 8;
+
 /// Gives advice at the nodes of a search, one after another. It is seen as the shape of its instance.
 ///
 /// Duals and prices go on from node to node, so that a child starts from its parent's; a memory leads back to those that
-/// were put aside at an earlier node. Of what is put aside the first eight are kept, and the others forgotten.
+/// were put aside at an earlier node. `aside` counts what was put aside and not gone back to; of it the first eight are kept, and the others
+/// forgotten.
 #[derive(Drop)]
 pub struct Adviser {
     pub(crate) workers: u32,
@@ -36,7 +40,8 @@ pub struct Adviser {
     pub(crate) fitting: Fitting,
     pub(crate) found: PlaceValues,
     pub(crate) listed: Vec<usize>,
-    memories: Memories,
+    memories: Vec<Memory>,
+    aside: usize,
     pub(crate) branch: Option<usize>,
 }
 
@@ -69,7 +74,8 @@ impl Adviser {
             fitting: Fitting::new(alloc, places)?,
             found: PlaceValues::new(alloc, places)?,
             listed: listed(alloc, &lengths)?,
-            memories: Memories::new(alloc),
+            memories: Vec::new(alloc),
+            aside: 0,
             branch: None,
             node,
             lengths,
@@ -243,14 +249,22 @@ impl Advice for Adviser {
     fn put_aside(&mut self, alloc: Global) -> Result<(), AllocError>
         ensures { KeepsShape self.old self.new }
     {
-        self.memories.put(alloc, &self.state, &self.node)
+        if self.aside < MOST_MEMORIES {
+            let memory = Memory::of(alloc, &self.state, &self.node)?;
+            self.memories.push(memory)?;
+        }
+        self.aside = self.aside.saturating_add(1);
+        Ok(())
     }
 
     fn go_back(&mut self)
         ensures { KeepsShape self.old self.new }
     {
-        if let Some(memory) = self.memories.take_back() {
-            memory.recall(&mut self.state, &mut self.node);
+        self.aside = self.aside.saturating_sub(1);
+        if self.memories.len() > self.aside {
+            if let Some(memory) = self.memories.pop() {
+                memory.recall(&mut self.state, &mut self.node);
+            }
         }
     }
 }

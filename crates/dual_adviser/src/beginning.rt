@@ -3,7 +3,7 @@
 ghost use Rattle.dual_ascent.specs.Shapes.{KeepsShape};
 
 use crate::adviser::Adviser;
-use ascent_lengths::{Workers, copy, fill, marked};
+use ascent_lengths::{Workers, at, copy, fill, marked};
 use dual_ascent::{Bench, NO_GAIN};
 use dual_flow::FULL_PRICE;
 use hub_moves::Ground;
@@ -111,7 +111,13 @@ impl Adviser {
             };
             let worth = self.search.hub_worth(&ground, cost) / unit;
             self.node.hub_worth = worth.clamp(0 - MOST_HUB_WORTH, MOST_HUB_WORTH) as i64;
-            self.node.begin_at(&self.sets.start);
+            for (k, price) in self.node.prices.iter_mut().enumerate() {
+                *price = if at(&self.sets.start, k) {
+                    FULL_PRICE
+                } else {
+                    0
+                };
+            }
         } else if marked(&self.sets.start) == 1 {
             let most = self.search.most_saved(&self.lengths) / unit;
             self.node.most_saved = most.clamp(FULL_PRICE as i128, MOST_HUB_WORTH) as i64;

@@ -47,7 +47,8 @@ pub(crate) fn listed(alloc: Global, lengths: &Lengths) -> Result<Vec<usize>, All
 }
 
 impl Adviser {
-    /// Tries places to branch on, where the bound is to come to this, and chooses the one whose two children seem to rise most.
+    /// Tries places to branch on, where the bound is to come to this, and chooses the one whose two children seem to rise most: by the
+    /// product of the rises, none above the gap and none 0.
     pub(crate) fn choose_branch<R: Threads + Sync>(
         &mut self,
         workers: &Workers<'_, R>,
@@ -57,6 +58,7 @@ impl Adviser {
     {
         let unit = self.lengths.worth().max(1);
         let gap = (wanted.wrapping_sub(self.progress.bound) / unit).max(1);
+        let least = (gap / 100).wrapping_add(1);
         self.node.little = None;
         self.node.coarse = 0;
         self.node.sort_by_price();
@@ -69,7 +71,9 @@ impl Adviser {
             };
             let opened = self.rise(workers, &trial, place, Side::In);
             let closed = self.rise(workers, &trial, place, Side::Out);
-            let score = branch_score(opened, closed, gap);
+            let score = (opened.min(gap).wrapping_add(least)).wrapping_mul(
+                closed.min(gap).wrapping_add(least),
+            );
             if score > most {
                 most = score;
                 chosen = Some(place);
@@ -128,13 +132,4 @@ impl Adviser {
         }
         None
     }
-}
-
-/// How good it seems to branch where the children rise by so much, and the bound is so far below what is wanted: the
-/// product of the rises, none above the gap and none 0.
-fn branch_score(opened: i128, closed: i128, gap: i128) -> i128 {
-    let least = (gap / 100).wrapping_add(1);
-    let opened = opened.min(gap).wrapping_add(least);
-    let closed = closed.min(gap).wrapping_add(least);
-    opened.wrapping_mul(closed)
 }

@@ -9,7 +9,7 @@
 //! is lowered to what they allow, and costs and bounds are worked out anew. What is proved is that each call ends
 //! without a fault and that lists keep their lengths, whatever the numbers.
 //!
-//! In the order of reading: `sets` (hub sets of now), `tries` (sets that were tried), `node` (prices, ramps and the core at a node), `progress` (its
+//! In the order of reading: `sets` (hub sets), `node` (prices, ramps and the core at a node), `progress` (its
 //! bounds), `memory` (nodes before), `adviser` (what callers use), `beginning`, `rounding` and `branching` (parts of a node).
 #![tactic(auto)]
 
@@ -21,6 +21,5 @@ mod node;
 mod progress;
 mod rounding;
 mod sets;
-mod tries;
 
 pub use adviser::Adviser;

@@ -8,9 +8,6 @@ use dual_ascent::{Quote, State, Sums};
 use search_advice::Side;
 use std::alloc::{AllocError, Global};
 
-/// So many memories there are at most.
-const MOST_MEMORIES: usize = 8;
-
 /// Values but for those that are 0: how many each commodity has, and one after another their places and the values themselves.
 #[derive(Drop)]
 struct SparseValues {
@@ -20,36 +17,34 @@ struct SparseValues {
 }
 
 impl SparseValues {
-    /// The values, of so many places for each of the commodities.
+    /// The values, of so many places for each of the commodities. There are fewer places than a byte can tell.
     fn of(
         alloc: Global,
         values: &[u32],
         places: usize,
         commodities: usize,
     ) -> Result<SparseValues, AllocError> {
-        let some = some(values);
+        let mut some = 0usize;
+        for value in values {
+            some = some.wrapping_add((*value).min(1) as usize);
+        }
         let mut sparse = SparseValues {
             counts: Vec::with_capacity(alloc, commodities)?,
             places: Vec::with_capacity(alloc, some)?,
             values: Vec::with_capacity(alloc, some)?,
         };
         for commodity in 0..commodities {
-            sparse.add(row(values, commodity, places));
+            let before = sparse.values.len();
+            for (k, value) in row(values, commodity, places).iter().enumerate() {
+                if *value > 0 {
+                    sparse.places.push(k.min(u8::MAX as usize) as u8)?;
+                    sparse.values.push(*value)?;
+                }
+            }
+            let count = sparse.values.len().wrapping_sub(before);
+            sparse.counts.push(short(count))?;
         }
         Ok(sparse)
-    }
-
-    /// Adds the values of a commodity. There is room for all, and there are fewer places than a byte can tell.
-    fn add(&mut self, values: &[u32]) {
-        let before = self.values.len();
-        for k in 0..values.len() {
-            if values[k] > 0 {
-                let _ = self.places.push(k.min(u8::MAX as usize) as u8);
-                let _ = self.values.push(values[k]);
-            }
-        }
-        let count = self.values.len().wrapping_sub(before);
-        let _ = self.counts.push(short(count));
     }
 
     /// Puts the values in place of those of the duals.
@@ -69,15 +64,6 @@ impl SparseValues {
     }
 }
 
-/// How many of the values are not 0.
-fn some(values: &[u32]) -> usize {
-    let mut count = 0usize;
-    for place in 0..values.len() {
-        count = count.wrapping_add(values[place].min(1) as usize);
-    }
-    count
-}
-
 /// The duals of an adviser, and the sides, prices and core of the node.
 #[derive(Drop)]
 pub(crate) struct Memory {
@@ -92,7 +78,7 @@ pub(crate) struct Memory {
 
 impl Memory {
     /// A memory of these duals and of this node.
-    fn of(alloc: Global, state: &State, node: &Node) -> Result<Memory, AllocError> {
+    pub(crate) fn of(alloc: Global, state: &State, node: &Node) -> Result<Memory, AllocError> {
         let commodities = state.quotes().len();
         Ok(Memory {
             quotes: state.quotes().to_vec(alloc)?,
@@ -115,47 +101,5 @@ impl Memory {
         copy(&self.sides, &mut node.sides);
         copy(&self.prices, &mut node.prices);
         node.recall_core(&self.core, self.age);
-    }
-}
-
-/// The memories of an adviser, and how often something has been put aside and not gone back to. Past the last memory it is
-/// forgotten.
-#[derive(Drop)]
-pub(crate) struct Memories {
-    items: Vec<Memory>,
-    aside: usize,
-}
-
-impl Memories {
-    /// No memories. It takes no memory.
-    pub(crate) fn new(alloc: Global) -> Memories {
-        Memories {
-            items: Vec::new(alloc),
-            aside: 0,
-        }
-    }
-
-    /// Puts the duals and the node aside.
-    pub(crate) fn put(
-        &mut self,
-        alloc: Global,
-        state: &State,
-        node: &Node,
-    ) -> Result<(), AllocError> {
-        if self.aside < MOST_MEMORIES {
-            self.items.push(Memory::of(alloc, state, node)?)?;
-        }
-        self.aside = self.aside.saturating_add(1);
-        Ok(())
-    }
-
-    /// Takes back what was put aside last, unless it was forgotten.
-    pub(crate) fn take_back(&mut self) -> Option<Memory> {
-        self.aside = self.aside.saturating_sub(1);
-        if self.items.len() > self.aside {
-            self.items.pop()
-        } else {
-            None
-        }
     }
 }

@@ -4,26 +4,36 @@ use ascent_lengths::at;
 use dual_ascent::{Gain, NO_GAIN};
 use std::alloc::{AllocError, Global};
 
-/// So many passes a node has at most, at the root and below it.
-const ROOT_PASSES: usize = 60;
+/// When a node is left, in passes: it has at most so many. It is left where the last `back` together gained little, once more than these
+/// and `least` were made, and where `far` passes more at the rate of the last two would not close it, once `rated` were made.
+#[derive(Clone, Copy)]
+struct Patience {
+    most: usize,
+    back: usize,
+    least: usize,
+    far: i128,
+    rated: usize,
+}
 
-const PASSES: usize = 15;
-/// The first passes of the root are over once so many were made.
-const ROOT_LEAST: usize = 20;
-/// A node is left where so many passes together gained little, at the root and below it.
-const ROOT_BACK: usize = 6;
+/// At the root.
+const ROOT: Patience = Patience {
+    most: 60,
+    back: 6,
+    least: 20,
+    far: 6,
+    rated: 10,
+};
 
-const BACK: usize = 3;
-/// It is little where it is less than this part of the gap.
+/// Below the root.
+const BELOW: Patience = Patience {
+    most: 15,
+    back: 3,
+    least: 0,
+    far: 8,
+    rated: 3,
+};
+/// A gain is little where it is less than this part of the gap.
 const LITTLE_GAIN: i128 = 8;
-/// A node is left where so many passes more at the rate of the last two would not close it, once so many were made.
-const ROOT_FAR: i128 = 6;
-
-const ROOT_RATED: usize = 10;
-
-const FAR: i128 = 8;
-
-const RATED: usize = 3;
 /// A root whose gap is above a hundredth is not left by its rate before so many passes.
 const ROOT_PATIENT: usize = 25;
 /// So many first passes of the root are made before a commodity waits.
@@ -46,7 +56,7 @@ impl Progress {
         Ok(Progress {
             is_root: true,
             bound: 0,
-            tops: Vec::with_capacity(alloc, ROOT_PASSES)?,
+            tops: Vec::with_capacity(alloc, ROOT.most)?,
             gain: NO_GAIN,
         })
     }
@@ -116,35 +126,18 @@ impl Progress {
 
     /// Tells whether another pass is worth its time, where the bound is to come to this, and gaps are measured by the scale.
     pub(crate) fn goes_on(&self, wanted: i128, scale: i128) -> bool {
-        let passes = self.tops.len();
-        let most = if self.is_root { ROOT_PASSES } else { PASSES };
-        if self.bound >= wanted || passes >= most {
+        let patience = if self.is_root { ROOT } else { BELOW };
+        let (passes, left) = (self.tops.len(), self.left(wanted));
+        if self.bound >= wanted || passes >= patience.most {
             return false;
         }
-        !self.is_far(wanted, scale) && !self.is_still(wanted)
-    }
-
-    /// Tells whether some passes more, at the rate of the last two, would not close the node.
-    fn is_far(&self, wanted: i128, scale: i128) -> bool {
-        let passes = self.tops.len();
-        let left = self.left(wanted);
-        if !self.is_root {
-            return passes >= RATED && self.gained(2).wrapping_mul(FAR / 2) < left;
-        }
-        passes >= ROOT_RATED
-            && self.gained(2).wrapping_mul(ROOT_FAR / 2) < left
-            && self.gained(6).wrapping_mul(3) < left
-            && (left.wrapping_mul(100) < scale || passes >= ROOT_PATIENT)
-    }
-
-    /// Tells whether the last passes gained little of the gap.
-    fn is_still(&self, wanted: i128) -> bool {
-        let passes = self.tops.len();
-        let (least, back) = if self.is_root {
-            (ROOT_LEAST, ROOT_BACK)
-        } else {
-            (0, BACK)
-        };
-        passes > least.max(back) && self.gained(back) < self.left(wanted) / LITTLE_GAIN
+        let is_slow = passes >= patience.rated
+            && self.gained(2).wrapping_mul(patience.far / 2) < left;
+        let may_be_left = !self.is_root
+            || self.gained(6).wrapping_mul(3) < left
+                && (left.wrapping_mul(100) < scale || passes >= ROOT_PATIENT);
+        let is_still = passes > patience.least.max(patience.back)
+            && self.gained(patience.back) < left / LITTLE_GAIN;
+        !(is_slow && may_be_left) && !is_still
     }
 }

@@ -1,8 +1,10 @@
-//! The hub sets that are guessed at a node.
+//! The hub sets that are guessed at a node, and those that a local search began at.
 
-use crate::tries::Tries;
 use ascent_lengths::{Lengths, copy, fill, marked};
 use std::alloc::{AllocError, Global};
+
+/// No more sets are noted.
+const MOST_TRIES: usize = 4096;
 
 /// Hub sets by marks: the best that was found at a node, the start set, the set that prices were rounded to last, and
 /// the places that may move. `fixed` is what the hubs of the best known set cost to open. Costs are in 10^-12.
@@ -27,7 +29,9 @@ impl Sets {
             start: vec![in alloc; false; places]?,
             rounded: vec![in alloc; false; places]?,
             movable: vec![in alloc; false; places]?,
-            tries: Tries::new(alloc),
+            tries: Tries {
+                sets: Vec::new(alloc),
+            },
         })
     }
 
@@ -60,5 +64,32 @@ impl Sets {
         cost.min(self.fixed.saturating_mul(8))
             .max(cost >> 30)
             .max(1)
+    }
+}
+
+/// Sets that a local search began at, each as the marks of up to 256 places.
+#[derive(Drop)]
+pub(crate) struct Tries {
+    sets: Vec<[u64; 4]>,
+}
+
+impl Tries {
+    /// Notes the marked set, and tells whether it was not tried before. Where memory runs out it is not noted.
+    pub(crate) fn note(&mut self, marks: &[bool]) -> bool {
+        let mut words = [0u64; 4];
+        for (k, mark) in marks.iter().enumerate() {
+            if *mark && k < 256 {
+                words[k / 64] |= 1 << (k % 64);
+            }
+        }
+        for set in &self.sets {
+            if *set == words {
+                return false;
+            }
+        }
+        if self.sets.len() < MOST_TRIES {
+            let _ = self.sets.push(words);
+        }
+        true
     }
 }
