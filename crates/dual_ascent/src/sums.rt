@@ -45,7 +45,7 @@ impl Sums {
     }
 
     /// Adds the dual of a commodity with this flow, price and values.
-    pub(crate) fn add_dual(&mut self, flow: i64, price: u32, values: &[u32]) {
+    pub fn add_dual(&mut self, flow: i64, price: u32, values: &[u32]) {
         self.total = self.total.wrapping_add(flow.wrapping_mul(price as i64));
         add_weighed(flow, values, &mut self.loads);
     }

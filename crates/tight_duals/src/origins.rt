@@ -2,7 +2,7 @@
 
 use crate::fitting::{Fitting, Manner};
 use crate::tight::{begin_tight, is_tight};
-use ascent_lengths::{Commodity, Lengths, PlaceValues, add_weighed, copy, put, row, row_mut};
+use ascent_lengths::{Commodity, Lengths, PlaceValues, copy, put, row, row_mut};
 use crew::Job;
 use dual_ascent::{Quote, Sums};
 use std::alloc::{AllocError, Global};
@@ -70,24 +70,6 @@ impl<'a> Origins<'a> {
         found.settle_asked(&legs, &self.fitting.asked);
         Some(price)
     }
-
-    /// Adds the dual that was fitted to those of the origin, and to the sums.
-    fn add(&self, duals: &mut Fitted, j: usize, flow: i64, price: u32, values: &[u32]) {
-        put(&mut duals.prices, j, price);
-        let added = flow.wrapping_mul(price as i64);
-        duals.sums.total = duals.sums.total.wrapping_add(added);
-        add_weighed(flow, values, &mut duals.sums.loads);
-        copy(values, row_mut(&mut duals.values, j, self.lengths.places));
-    }
-
-    /// Takes the dual that was there before from the sums, where these are a change.
-    fn take_old(&self, duals: &mut Fitted, flow: i64, price: u32, values: &[u32]) {
-        if self.manner == Manner::Guess {
-            let taken = flow.wrapping_mul(price as i64);
-            duals.sums.total = duals.sums.total.wrapping_sub(taken);
-            add_weighed(0i64.wrapping_sub(flow), values, &mut duals.sums.loads);
-        }
-    }
 }
 
 impl<'a> Job<Fitted> for Origins<'a> {
@@ -120,8 +102,17 @@ impl<'a> Job<Fitted> for Origins<'a> {
             if *flow > 0 {
                 if let Some(price) = self.fit(scratch, [i, j], quote.price, before) {
                     let flow = *flow as i64;
-                    self.add(&mut duals, j, flow, price, scratch.values());
-                    self.take_old(&mut duals, flow, quote.price, before);
+                    put(&mut duals.prices, j, price);
+                    copy(
+                        scratch.values(),
+                        row_mut(&mut duals.values, j, lengths.places),
+                    );
+                    duals.sums.add_dual(flow, price, scratch.values());
+                    if self.manner == Manner::Guess {
+                        duals
+                            .sums
+                            .add_dual(0i64.wrapping_sub(flow), quote.price, before);
+                    }
                 }
             }
         }

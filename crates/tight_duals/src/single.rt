@@ -2,7 +2,7 @@
 
 ghost use Rattle.dual_ascent.specs.Shapes.{KeepsShape};
 
-use ascent_lengths::{FAR, Lengths, add_weighed, at, fill, put, row, row_mut};
+use ascent_lengths::{FAR, Lengths, at, fill, put, row, row_mut};
 use dual_ascent::{State, Sums};
 use std::alloc::{AllocError, Global};
 
@@ -23,9 +23,7 @@ pub fn fit_single(alloc: Global, lengths: &Lengths, state: &mut State) -> Result
             let values = row_mut(&mut values, j, places);
             let price = fit_one(lengths, [i, j], &turned, values);
             put(&mut prices, j, price);
-            let flow = *flow as i64;
-            sums.total = sums.total.wrapping_add(flow.wrapping_mul(price as i64));
-            add_weighed(flow, values, &mut sums.loads);
+            sums.add_dual(*flow as i64, price, values);
         }
         state.put_origin(i, &prices, &values);
     }
