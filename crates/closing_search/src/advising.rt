@@ -5,7 +5,7 @@ ghost use Rattle.hub_spec.specs.Trees.{IsBranch, HasRoom};
 ghost use Rattle.closing_search.specs.Progressing.{IsGoing, IsAt, IsAdvised};
 ghost use Rattle.closing_search.specs.Walking.{IsWalking, IsSameWalk};
 
-use crate::progress::{goal, offer_nodes};
+use crate::progress::{goal, may_split, offer_nodes};
 use crate::walker::Walker;
 use hub_model::{Branch, signed};
 use search_advice::Advice;
@@ -31,6 +31,15 @@ impl<R: Threads + Sync, A: Advice + Drop> Walker<'_, R, A> {
             IfOk result (λ ended. IsAdvised w.task.now branch.now w.progress self.new.walk.progress ended) }
     {
         self.take_advice(branch)?;
+        let wanted = signed(goal(self.walk.task, &self.walk.progress));
+        let may_branch = may_split(self.walk.task, &self.walk.progress);
+        let is_whole = self
+            .guide
+            .advice
+            .settle(self.rt, self.walk.alloc, wanted, may_branch)?;
+        if may_branch && !is_whole {
+            return Ok(false);
+        }
         let values = self.guide.advice.values();
         self.walk.end_by_values(self.rt, values, branch)
     }

@@ -30,6 +30,18 @@ pub trait Advice {
     /// Tells whether another pass is worth its time, where the bound is to come to this.
     fn goes_on(&self, wanted: i128) -> bool;
 
+    /// Ends the passes at the node, where the bound is to come to this and the node may be branched or not, and tells whether the
+    /// values are whole. If they are not, the bound does not come to that, and a place to branch on is chosen. Threads may share the
+    /// handle.
+    fn settle<R: Threads + Sync>(
+        &mut self,
+        rt: &R,
+        alloc: Global,
+        wanted: i128,
+        may_branch: bool,
+    ) -> Result<bool, AllocError>
+        requires { IsSync R.row };
+
     /// The bound of the node by the cut of the values, about.
     fn bound_hint(&self) -> i128;
 
