@@ -1,12 +1,14 @@
-//! An instance in 32 bits, for advice: lengths, flows and fixed costs in small units, in tables row by row, over all candidates
-//! or over a few of them.
+//! An instance in 32 bits for the heuristics of `optimize`: lengths of legs, flows and fixed costs in coarse units, as
+//! tables over all candidates or over some of them.
 //!
-//! Nothing here is exact, and no caller relies on a number. A place is a candidate, counted from 0.
+//! Nothing here is exact or trusted, and no contract says what a number is. A place is the index of a candidate, from
+//! 0. Where `--max-length` limits routes, a route that is too long counts as `FAR`, so both kinds of instances share
+//! one code.
 //!
-//! In the order of reading: `rows` (lists and tables, and the few loops over them that take most of the time), `units` (what
-//! lengths and flows are told in), `distances` (which routes are allowed, where none may be longer than a limit), `tables` (the legs
-//! over some places), `lengths` (the instance), `commodity` (the routes of a commodity), `asked` (the values that places ask of one another
-//! for it), `workers` (who does the work).
+//! In the order of reading: `rows` (vectors and tables, with the inner loops that take most of the time), `units` (the
+//! units of lengths and flows), `distances` (which routes `--max-length` allows), `tables` (the legs over some places),
+//! `lengths` (the instance), `commodity` (the routes of a commodity), `asked` (the values that routes require of places
+//! at a price), `workers` (how many threads share the work).
 #![tactic(auto)]
 
 mod asked;

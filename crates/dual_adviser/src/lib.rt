@@ -1,16 +1,18 @@
-//! Advice for a search (`Advice` of `search_advice`) by dual ascent: dual values of all commodities that make a good cut, hub
-//! sets that are cheap, and the place to branch on.
+//! The heuristic of `optimize` (`Advice` of `search_advice`) by dual ascent: dual values for a cut, hub sets, and the
+//! candidate to branch on.
 //!
-//! At a node passes better the duals (`dual_ascent`). The prices, rounded, name a hub set, and a local search betters it
-//! (`hub_moves`); where the bound is near its cost, the duals are made tight at it (`tight_duals`), so that the bound becomes the cost.
-//! Where that does not close the node, places are tried to branch on.
+//! At a node ascent passes improve the duals (`dual_ascent`). The rounded penalties give a hub set, which a local
+//! search improves (`hub_moves`). Where the bound is close to the cost of the set, the duals are made tight at it
+//! (`tight_duals`), so that the bound becomes that cost. Where this does not fathom the node, strong branching chooses
+//! the candidate.
 //!
-//! Nothing here is exact, and no caller relies on it: the values are made those of a cut elsewhere, where each price
-//! is lowered to what they allow, and costs and bounds are worked out anew. What is proved is that each call ends
-//! without a fault and that lists keep their lengths, whatever the numbers.
+//! Nothing here is exact or trusted. The search makes each dual feasible first, with the greatest price that its values
+//! allow, and computes costs and bounds again, exactly. What is proved is that each call ends without a fault, and that
+//! lists keep their lengths, whatever the numbers.
 //!
-//! In the order of reading: `sets` (hub sets), `node` (prices, ramps and the core at a node), `progress` (its
-//! bounds), `memory` (nodes before), `adviser` (what callers use), `beginning`, `rounding` and `branching` (parts of a node).
+//! In the order of reading: `sets` (hub sets), `node` (penalties, ramps and the core at a node), `progress` (its
+//! bounds, and when it is left), `memory` (state to return to), `adviser` (the trait), `beginning`, `rounding` and
+//! `branching` (parts of a node).
 #![tactic(auto)]
 
 mod adviser;

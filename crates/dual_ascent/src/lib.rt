@@ -1,18 +1,22 @@
-//! Dual ascent: passes over all commodities that better their duals, one after another, at prices of the places.
+//! Block-coordinate dual ascent: passes that improve the dual of one commodity after another, at penalties of the hubs.
 //!
-//! Each place, a candidate counted from 0, has a price between 0 (closed) and full (open). It rises with the place's
-//! load, the sum of its values weighed by the flows: at the fixed cost it is what it was at the end of the pass
-//! before. Each commodity gets the values that are best at the prices, mixed with its old
-//! ones where the whole step would go too far, and loads and prices follow at once. One that hardly gains by that waits: the
-//! next passes leave it out. An origin starts from the loads that those before it left but for the last few, so that
-//! workers can do some side by side; a pass comes out the same, whatever the workers.
+//! Each place, the index of a candidate from 0, has a penalty (its price) between 0 (closed) and full (open). The
+//! penalty rises with the load of the place, the sum of its values weighted by the flows. Where the load is the fixed
+//! cost, the penalty is that of the end of the pass before. A commodity gets the dual that is best at the penalties
+//! (`dual_flow`). Where the whole step would go too far, that dual is mixed with the old one. Loads and penalties
+//! follow at once.
 //!
-//! Nothing here is exact, and no caller relies on a number. What is proved is that each call ends without a fault and that lists keep
-//! their lengths.
+//! A commodity whose step gains little is left out of the next passes, with exponential back-off. An origin starts from
+//! the loads that all origins before it left, except the last few. So workers can do some origins side by side, and the
+//! result is the same for every number of workers.
 //!
-//! In the order of reading: `ramps` (prices and orders by loads), `waits` (who waits), `sums` (of all duals, and the bound by them), `state`
-//! (all duals), `seen` (the places that passes see), `steps` (a mix of old values and new), `origins` (the duals of one
-//! origin), `schedule` (their order), `passes` and `sharing` (one pass, by one worker or by several), `trials` (a pass that is taken back).
+//! Nothing here is exact or trusted. What is proved is that each call ends without a fault, and that lists keep their
+//! lengths.
+//!
+//! In the order of reading: `ramps` (penalties and orders by loads), `waits` (back-off), `sums` (total and loads of all
+//! duals, and their bound), `state` (all duals), `seen` (the core: the places that passes see), `steps` (a mix of old
+//! values and new), `origins` (the duals of one origin), `schedule` (the order of the origins), `passes` and `sharing`
+//! (a pass by one worker, or by several), `trials` (a pass that is undone, for strong branching).
 #![tactic(auto)]
 
 mod origins;

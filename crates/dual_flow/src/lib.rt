@@ -1,7 +1,9 @@
-//! The best dual of a commodity at given prices of the places: the greatest price of the commodity less what its values cost.
+//! The best dual of one commodity at given penalties of the hubs (its price less the penalties of its values is
+//! greatest), as the dual of a minimum-cost flow.
 //!
-//! It is the dual of a small flow problem (`network`), in which the prices are capacities and the lengths of routes are costs.
-//! Nothing here is exact, and no caller relies on a number: what is proved is that each call ends without a fault.
+//! The penalties (prices of places) are the capacities of a small network (`network`), and the lengths of routes its
+//! arc costs. Shortest augmenting paths (`ways`) solve it; `best` takes price and values from its potentials. Nothing
+//! here is exact or trusted: what is proved is that each call ends without a fault.
 #![tactic(auto)]
 
 mod best;

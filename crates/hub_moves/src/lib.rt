@@ -1,10 +1,10 @@
-//! Hub sets: the shortest routes over one, and a local search that opens a hub, closes one, or puts one in another's stead.
+//! Local search over hub sets: opens, closes or swaps a hub while that costs less, over the shortest routes of a set.
 //!
-//! Nothing here is exact, and no caller relies on a number: what is proved is that each call ends without a fault. A place is a
-//! candidate, counted from 0. Where no route may be longer than a limit, one that is too long counts as `FAR`.
+//! Nothing here is exact or trusted: what is proved is that each call ends without a fault. A place is the index of a
+//! candidate, from 0. Where `--max-length` limits routes, a route that is too long counts as `FAR`.
 //!
-//! In the order of reading: `routes` (shortest routes over a set), `openings` (what a set costs with one place more), `moves` (the local
-//! search).
+//! In the order of reading: `routes` (shortest routes over a set), `openings` (the cost of a set with one more hub),
+//! `moves` (the local search).
 #![tactic(auto)]
 
 mod moves;

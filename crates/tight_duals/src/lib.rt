@@ -1,10 +1,15 @@
-//! Duals that are fitted in closed form, origin by origin, by workers: tight at a hub set, or put right where passes saw a core alone.
+//! Duals in closed form, an origin at a time, by several workers: tight at a hub set, or completed where passes saw
+//! only a core of the candidates.
 //!
-//! A commodity's dual is tight at a set where its price is what the values of the set's hubs leave of the shortest route over it. Then the
-//! cut's bound, with the set's hubs in and all others out, is the cost of the set.
+//! The dual of a commodity is tight at a hub set where its price is the length of its shortest route over the set plus
+//! the values of the set's hubs. If all duals are tight, the cut's bound with exactly the set's hubs open is the set's
+//! cost.
 //!
-//! Nothing here is exact, and no caller relies on a number: what is proved is that each call ends without a fault and that lists keep
-//! their lengths.
+//! Nothing here is exact or trusted. What is proved is that each call ends without a fault, and that lists keep their
+//! lengths.
+//!
+//! In the order of reading: `tight` (the tight dual of a commodity), `origins` (those of an origin, as a job of the
+//! worker pool), `fitting` (those of all origins), `single` (the best duals for `--hubs 1`).
 #![tactic(auto)]
 
 mod fitting;
