@@ -1,12 +1,12 @@
-//! The values of places for a commodity, and what they ask of one another: a pair of places whose route is shorter than the
-//! commodity's price has values that make up for it.
+//! Values of places at a price: those of two places whose route is shorter than the price must together make up the
+//! difference.
 
 use crate::commodity::Commodity;
 use crate::rows::{FAR, at, copy, fill, put, set_sums};
 use std::alloc::{AllocError, Global};
 
-/// The values of the places for a commodity at a price, and by place the legs to and from it with its value added, or
-/// `FAR` where the place asks nothing of others as yet.
+/// The values of the places for a commodity at a price. For each place it has the collection and the delivery leg plus
+/// the value, or `FAR` while the place requires nothing of others.
 #[derive(Drop)]
 pub struct PlaceValues {
     price: u32,
@@ -16,7 +16,7 @@ pub struct PlaceValues {
 }
 
 impl PlaceValues {
-    /// Values of so many places.
+    /// Values for this many places.
     pub fn new(alloc: Global, places: usize) -> Result<PlaceValues, AllocError> {
         let width = places.div_ceil(8).wrapping_mul(8);
         Ok(PlaceValues {
@@ -37,7 +37,7 @@ impl PlaceValues {
         &self.values
     }
 
-    /// Begins at this price, with all values 0, and with no place that asks anything of others.
+    /// Begins at this price with all values 0, while no place requires anything of others.
     pub fn begin(&mut self, price: u32) {
         self.price = price;
         fill(&mut self.values, 0);
@@ -45,7 +45,7 @@ impl PlaceValues {
         fill(&mut self.lasts, FAR);
     }
 
-    /// Begins at this price with the values of the list, where each place asks of others what its value leaves.
+    /// Begins at this price with these values; each place requires of others what its value leaves.
     pub fn begin_from(&mut self, legs: &Commodity<'_>, price: u32, values: &[u32]) {
         self.price = price;
         copy(values, &mut self.values);
@@ -53,21 +53,21 @@ impl PlaceValues {
         set_sums(legs.deliver, values, &mut self.lasts);
     }
 
-    /// Gives a place this value.
+    /// Sets the value of a place.
     pub fn settle(&mut self, legs: &Commodity<'_>, k: usize, value: u32) {
         put(&mut self.values, k, value);
         put(&mut self.firsts, k, at(legs.collect, k).wrapping_add(value));
         put(&mut self.lasts, k, at(legs.deliver, k).wrapping_add(value));
     }
 
-    /// Has a place ask nothing of others.
+    /// From now on the place requires nothing of others.
     pub fn withhold(&mut self, k: usize) {
         put(&mut self.firsts, k, FAR);
         put(&mut self.lasts, k, FAR);
     }
 
-    /// Gives each of these places, in order, the least value that the routes by it, alone or with places that ask something, ask at
-    /// the price.
+    /// Sets the value of each of these places, in order, to the least that its routes require, alone or with places
+    /// that require something.
     pub fn settle_asked(&mut self, legs: &Commodity<'_>, places: &[usize]) {
         let legs = legs.below(self.price);
         for k in places {
@@ -76,7 +76,7 @@ impl PlaceValues {
         }
     }
 
-    /// The least value that is asked of a place, which asks nothing of others until it has it.
+    /// The least required value of a place, which requires nothing of others until it has one.
     #[inline(always)]
     fn asked(&mut self, legs: &Commodity<'_>, k: usize) -> u32 {
         let (forth, back) = (legs.forth(k), legs.back(k));
@@ -94,14 +94,14 @@ impl PlaceValues {
         self.price.saturating_sub(least)
     }
 
-    /// What the shortest routes by the place come to, each with the other hub's value.
+    /// The least length of a route over the place, plus the value of its other hub.
     pub fn shortest_by(&self, legs: &Commodity<'_>, k: usize) -> u32 {
         let onward = legs.onward(k).least(&self.lasts);
         let before = legs.before(k).least(&self.firsts);
         onward.min(before).min(legs.alone(k))
     }
 
-    /// The greatest price that the values of the list allow, none above this one.
+    /// The greatest price, at most `most`, at which these values are feasible.
     pub fn greatest_price(&mut self, legs: &Commodity<'_>, values: &[u32], most: u32) -> u32 {
         self.begin_from(legs, most, values);
         let mut price = most;

@@ -1,18 +1,18 @@
-//! The routes of a commodity: one that is longer than a limit counts as `FAR`.
+//! The routes of a commodity. A route that `--max-length` forbids has length `FAR`.
 
 use crate::distances::{Fan, Reach};
 use crate::rows::{FAR, at, least_sum, small};
 use crate::tables::Tables;
 
-/// The legs of a commodity over places: of collection and delivery, and the least lengths of both with a trunk leg, allowed or not.
-/// Where no route may be longer than a limit it has the distances that tell which are allowed.
+/// The legs of a commodity over places: collection, delivery, and the least lengths of each with a trunk leg, allowed
+/// or not. With `--max-length` it has the distances that say which routes are allowed.
 #[derive(Clone, Copy)]
 pub struct Commodity<'a> {
     tables: &'a Tables,
-    /// The legs of collection by place.
+    /// The collection leg to each place.
     pub collect: &'a [u32],
     collect_near: &'a [u32],
-    /// The legs of delivery by place.
+    /// The delivery leg from each place.
     pub deliver: &'a [u32],
     deliver_near: &'a [u32],
     reach: Option<Reach<'a>>,
@@ -35,7 +35,7 @@ impl<'a> Commodity<'a> {
         }
     }
 
-    /// Tells whether some route by the place, allowed or not, is shorter than the limit.
+    /// Returns whether some route over the place, allowed or not, is shorter than the limit.
     pub fn is_near(&self, k: usize, limit: u32) -> bool {
         self.forth(k) < limit || self.back(k) < limit
     }
@@ -50,7 +50,7 @@ impl<'a> Commodity<'a> {
         at(self.collect_near, k).wrapping_add(at(self.deliver, k))
     }
 
-    /// Tells whether all routes shorter than this are allowed.
+    /// Returns whether all routes shorter than this are allowed.
     pub fn is_safe(&self, limit: u32) -> bool {
         match self.reach {
             None => true,
@@ -58,7 +58,7 @@ impl<'a> Commodity<'a> {
         }
     }
 
-    /// The same routes where just those shorter than this matter: without distances, if all of these are allowed.
+    /// The same commodity where only routes shorter than this matter: without distances, if all of these are allowed.
     pub fn below(&self, limit: u32) -> Commodity<'a> {
         let mut legs = *self;
         if self.is_safe(limit) {
@@ -67,7 +67,7 @@ impl<'a> Commodity<'a> {
         legs
     }
 
-    /// The length by the place alone.
+    /// The length of the route with the place as its only hub.
     pub fn alone(&self, k: usize) -> u32 {
         let length = at(self.collect, k).wrapping_add(at(self.deliver, k));
         match self.reach {
@@ -96,7 +96,7 @@ impl<'a> Commodity<'a> {
         }
     }
 
-    /// Sets the lengths by the place and each of the others, one way or the other, whose legs stand in the same order.
+    /// Sets, for each of the others, the length of the shorter route over it and the place, in either order.
     pub fn set_pairs(&self, k: usize, others: Others<'_>, lengths: &mut [i32]) {
         if self.reach.is_some() {
             self.set_allowed_pairs(k, others.places, lengths);
@@ -146,7 +146,7 @@ impl<'a> Commodity<'a> {
         }
     }
 
-    /// The length of the shortest route that is not allowed, or `FAR`.
+    /// The length of the shortest forbidden route, or `FAR`.
     pub(crate) fn shortest_barred(&self) -> u32 {
         let Some(reach) = self.reach else { return FAR };
         let mut least = FAR;
@@ -161,7 +161,7 @@ impl<'a> Commodity<'a> {
     }
 }
 
-/// Some places, and a commodity's legs of collection and delivery by way of them, in the same order.
+/// Some places with a commodity's collection and delivery legs, in one order.
 #[derive(Clone, Copy)]
 pub struct Others<'a> {
     /// The places.
@@ -172,8 +172,8 @@ pub struct Others<'a> {
     pub deliver: &'a [u32],
 }
 
-/// The routes of a commodity with one hub in common: the leg that they share, by their other hub the two that they do not,
-/// and their distances where these are limited.
+/// The routes of a commodity with one hub in common: the leg that they share, by the other hub the two other legs, and
+/// their distances with `--max-length`.
 #[derive(Clone, Copy)]
 pub struct HubRoutes<'a> {
     own: u32,
@@ -183,7 +183,7 @@ pub struct HubRoutes<'a> {
 }
 
 impl HubRoutes<'_> {
-    /// The length with this other hub.
+    /// The length of the route with this other hub.
     pub fn length(&self, other: usize) -> u32 {
         let length = self
             .own
@@ -195,7 +195,7 @@ impl HubRoutes<'_> {
         }
     }
 
-    /// The least of their lengths where the other leg of each is taken from the list, or more than `FAR`.
+    /// The least length where the other hub's last leg is taken from the list; above `FAR` where there is none.
     pub fn least(&self, others: &[u32]) -> u32 {
         let least = match self.fan {
             None => least_sum(self.trunk, others),

@@ -1,10 +1,10 @@
-//! Which routes of an instance are allowed, where no route may be longer than a limit: distances, in a unit of their own.
+//! Which routes `--max-length` allows: distances of their own, in a unit of their own.
 
 use crate::rows::{FAR, at};
 use crate::tables::Legs;
 
-/// Distances in tables as those of the legs, and the limit; with, by commodity, the length below which all of its routes are
-/// allowed.
+/// Distances in the same tables as the legs, and the limit. `safe_below` has for each commodity a length below which
+/// all of its routes are allowed.
 #[derive(Drop)]
 pub(crate) struct Distances {
     pub(crate) legs: Legs,
@@ -13,7 +13,7 @@ pub(crate) struct Distances {
 }
 
 impl Distances {
-    /// The distances of the commodity from `i` to `j`, of so many nodes.
+    /// The distances of the commodity from `i` to `j` among `size` nodes.
     pub(crate) fn reach(&self, size: usize, i: usize, j: usize) -> Reach<'_> {
         Reach {
             legs: &self.legs,
@@ -25,8 +25,8 @@ impl Distances {
     }
 }
 
-/// The distances of a commodity: from its origin to each place, from each to its destination, and between places; with the
-/// length below which all of its routes are allowed.
+/// The distances of a commodity: from its origin to each place, from each place to its destination, and between places.
+/// `safe_below` is a length below which all of its routes are allowed.
 #[derive(Clone, Copy)]
 pub(crate) struct Reach<'a> {
     legs: &'a Legs,
@@ -58,8 +58,8 @@ impl<'a> Reach<'a> {
     }
 }
 
-/// The routes of a commodity with one hub in common: the distance that they share, and by their other hub the two that
-/// they do not.
+/// The distances of a commodity's routes with one hub in common: the shared leg, and by the other hub the two other
+/// legs.
 #[derive(Clone, Copy)]
 pub(crate) struct Fan<'a> {
     own: u32,
@@ -69,7 +69,7 @@ pub(crate) struct Fan<'a> {
 }
 
 impl Fan<'_> {
-    /// Tells whether the route with this other hub is allowed.
+    /// Returns whether the route with this other hub is allowed.
     pub(crate) fn allows(&self, other: usize) -> bool {
         let distance = self
             .own
@@ -78,8 +78,8 @@ impl Fan<'_> {
         distance <= self.limit
     }
 
-    /// The least sum of two numbers that stand at the other hub of a route that is allowed, or of one that is not, or `FAR`
-    /// where none is less.
+    /// The least sum of two items at one index, over the other hubs of allowed routes, or of forbidden ones. It is at
+    /// most `FAR`.
     pub(crate) fn least_sum(&self, some: &[u32], others: &[u32], is_allowed: bool) -> u32 {
         let (trunk, other) = (self.trunk, self.other);
         let count = some.len().min(others.len());

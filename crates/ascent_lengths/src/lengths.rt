@@ -10,10 +10,10 @@ use crate::units::{Units, distance_unit};
 use hub_model::Instance;
 use std::alloc::{AllocError, Global};
 
-/// An instance's legs by unit of flow, its flows and its fixed costs, with the candidates counted from 0 as places.
+/// The legs per unit of flow, flows and fixed costs of an instance. Places are the indices of its candidates.
 ///
-/// Where all lengths are the same both ways, a commodity and its way back are one: one of the two has the flow of both, and
-/// the other none.
+/// Where all lengths are symmetric, a commodity and its reverse are merged: one of the two has the flow of both, the
+/// other has none.
 #[derive(Drop)]
 pub struct Lengths {
     /// The number of nodes.
@@ -22,16 +22,16 @@ pub struct Lengths {
     pub places: usize,
     /// The tables over all places.
     pub tables: Tables,
-    /// The number of hubs that is wanted, if one is.
+    /// The number p of hubs, if exactly p are required.
     pub wanted: Option<usize>,
-    /// Whether a commodity and its way back are one.
+    /// Whether a commodity and its reverse are merged.
     pub are_merged: bool,
-    /// How many commodities have flow.
+    /// The number of commodities with flow.
     pub flowing: usize,
-    /// The fixed costs by place, in what one unit of flow along one unit of length costs.
+    /// The fixed cost of each place, in the cost of one unit of flow along one unit of length.
     pub fixed: Vec<i64>,
-    /// What a hub set counts as costing more for each commodity that it has no allowed route for, in 10^-12: no set that has
-    /// all costs as much.
+    /// The penalty of a hub set for each commodity that it is infeasible for, in 10^-12: more than any feasible set
+    /// costs.
     pub lack_cost: i128,
     units: Units,
     flows: Vec<u32>,
@@ -39,7 +39,7 @@ pub struct Lengths {
 }
 
 impl Lengths {
-    /// The instance in small units.
+    /// The instance in coarse units.
     pub fn new(alloc: Global, instance: &Instance) -> Result<Lengths, AllocError> {
         let size = instance.size() as usize;
         let places = instance.candidates().len();
@@ -71,7 +71,7 @@ impl Lengths {
         Ok(lengths)
     }
 
-    /// Sets the lengths below which all routes are allowed, where none may be longer than a limit.
+    /// With `--max-length`, sets the lengths below which all routes of a commodity are allowed.
     fn set_safe(&mut self, alloc: Global) -> Result<(), AllocError> {
         if !self.tables.has_limit() {
             return Ok(());
@@ -93,7 +93,7 @@ impl Lengths {
         self.size.wrapping_mul(self.size)
     }
 
-    /// How many values the commodities of an origin have.
+    /// The number of values that the commodities of an origin have.
     pub fn origin_values(&self) -> usize {
         self.size.wrapping_mul(self.places)
     }
@@ -105,18 +105,18 @@ impl Lengths {
         self.units.length.max(1)
     }
 
-    /// What one unit of flow along one unit of length costs, in 10^-12.
+    /// The cost of one unit of flow along one unit of length, in 10^-12.
     pub fn worth(&self) -> i128 {
         (self.units.length as i128).wrapping_mul(self.units.flow as i128)
     }
 
-    /// No route is longer.
+    /// An upper bound on the length of a route.
     pub fn longest(&self) -> u32 {
         self.units.longest
     }
 
-    /// No price is above. Without a limit of routes a price comes to it only where priced places leave a commodity aside;
-    /// with one that is common, and it is just the longest of all routes, to which exact prices are lowered.
+    /// An upper bound on prices. With `--max-length` it is the length of the longest route, to which exact prices are
+    /// lowered too; else only a commodity that no priced place is near has this price.
     pub fn most_price(&self) -> u32 {
         if self.tables.has_limit() {
             self.longest()
@@ -130,7 +130,7 @@ impl Lengths {
         row(&self.flows, i, self.size)
     }
 
-    /// The flow of the commodity of this number.
+    /// The flow of the commodity of this index.
     pub fn flow(&self, commodity: usize) -> u32 {
         at(&self.flows, commodity)
     }
@@ -140,7 +140,7 @@ impl Lengths {
         at(&self.fixed_costs, k)
     }
 
-    /// The fixed costs of the marked places, in 10^-12.
+    /// The fixed costs of the marked places together, in 10^-12.
     pub fn fixed_cost_of(&self, marks: &[bool]) -> i128 {
         let mut cost = 0i128;
         for (fixed, mark) in self.fixed_costs.iter().zip(marks) {
@@ -152,7 +152,7 @@ impl Lengths {
     }
 }
 
-/// A unit of lengths, and the factors at which distances are taken.
+/// The unit of lengths, and the factors of distances.
 #[derive(Clone, Copy)]
 struct Measure {
     unit: u64,
@@ -228,7 +228,7 @@ fn distances_of(alloc: Global, instance: &Instance) -> Result<Option<Distances>,
     }))
 }
 
-/// Tells whether the flows there and back fit one number together.
+/// Returns whether the flows of a commodity and its reverse fit 32 bits together.
 fn may_merge(flows: &[u32], size: usize) -> bool {
     for i in 0..size {
         for j in 0..i {
@@ -241,8 +241,8 @@ fn may_merge(flows: &[u32], size: usize) -> bool {
     true
 }
 
-/// Gives one of each commodity and its way back the flow of both. So that origins have as many each, it is the one from the node
-/// of the lesser number where their sum is even.
+/// Merges each commodity with its reverse. So that origins get about equally many, the flow goes to the one from the
+/// lesser node where the sum of the two nodes is even.
 fn merge(flows: &mut [u32], size: usize) {
     for i in 0..size {
         for j in 0..i {
@@ -258,7 +258,7 @@ fn merge(flows: &mut [u32], size: usize) {
     }
 }
 
-/// How many of the flows are not 0.
+/// The number of flows above 0.
 fn flowing(flows: &[u32]) -> usize {
     let mut count = 0usize;
     for flow in flows {
@@ -267,7 +267,7 @@ fn flowing(flows: &[u32]) -> usize {
     count
 }
 
-/// What all commodities over the longest routes and all fixed costs come to, in 10^-12, and a little more.
+/// A little more than all commodities over the longest routes and all fixed costs together, in 10^-12.
 fn lack_cost(flows: &[u32], units: Units, fixed_costs: &[i128]) -> i128 {
     let mut flow = 1i128;
     for some in flows {
@@ -281,7 +281,7 @@ fn lack_cost(flows: &[u32], units: Units, fixed_costs: &[i128]) -> i128 {
     cost.wrapping_add(1)
 }
 
-/// The number of hubs that is wanted, if one is.
+/// The number p of hubs, if exactly p are required.
 fn wanted_hubs(instance: &Instance) -> Option<usize> {
     let wanted = instance.wanted()?;
     Some(wanted as usize)
@@ -307,7 +307,7 @@ fn fixed_costs(alloc: Global, instance: &Instance) -> Result<Vec<i128>, AllocErr
     Ok(fixed)
 }
 
-/// Fixed costs in the worth of the units, rounded down, none above what sums of 64 bits hold.
+/// Fixed costs in the cost of one unit of flow and length, rounded down, and at most what sums of 64 bits hold.
 fn fixed_in(alloc: Global, costs: &[i128], units: Units) -> Result<Vec<i64>, AllocError> {
     let worth = (units.length as u128)
         .wrapping_mul(units.flow as u128)

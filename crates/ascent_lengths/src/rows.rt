@@ -1,32 +1,31 @@
-//! Lists of numbers, rows of flat tables, and the few loops over them that take most of the time.
+//! Vectors, rows of flat tables, and the inner loops over them that take most of the time.
 //!
-//! A place outside a list reads as 0 and is not written, and a row outside a table is empty: this is advice, and no
-//! number of it is relied on. A loop over several lists counts up to the least length, so that it has one end and can be
-//! compiled to steps of several numbers.
+//! An index outside a vector reads as 0 and is not written; a row outside a table is empty. No number here is relied
+//! on. A loop over several vectors ends at the shortest, so that it has one end and can be vectorized.
 
-/// A length that stands for none. The sum of three of them does not wrap.
+/// The length that stands for no route. The sum of three of them does not wrap.
 pub const FAR: u32 = 1 << 30;
 
-/// A length that stands for none among numbers that have a sign.
+/// The signed number that stands for no route.
 pub const NONE: i32 = 1 << 29;
 
-/// The length with a sign; far ones are the least that stands for none.
+/// The length as a signed number, at most `NONE`.
 pub fn small(length: u32) -> i32 {
     length.min(NONE as u32) as i32
 }
 
-/// The number in 32 bits, or the greatest of these.
+/// The number in 32 bits, or `u32::MAX` if it does not fit.
 pub fn short(number: usize) -> u32 {
     number.min(u32::MAX as usize) as u32
 }
 
-/// The row of this number in a flat table with so many columns.
+/// The row of this index in a flat table of `width` columns.
 pub fn row<T>(table: &[T], index: usize, width: usize) -> &[T] {
     let start = index.wrapping_mul(width);
     table.get(start..start.wrapping_add(width)).unwrap_or(&[])
 }
 
-/// The row of this number in a flat table with so many columns, to be written.
+/// The row of this index in a flat table of `width` columns, mutable.
 pub fn row_mut<T>(table: &mut [T], index: usize, width: usize) -> &mut [T] {
     let start = index.wrapping_mul(width);
     table
@@ -34,12 +33,12 @@ pub fn row_mut<T>(table: &mut [T], index: usize, width: usize) -> &mut [T] {
         .unwrap_or(&mut [])
 }
 
-/// The item at this place, or that which is usual.
+/// The item at this index, or the default value.
 pub fn at<T: Copy + Default + Drop>(items: &[T], index: usize) -> T {
     items.get(index).copied().unwrap_or_default()
 }
 
-/// How many places are marked.
+/// The number of marks that are set.
 pub fn marked(marks: &[bool]) -> usize {
     let mut count = 0usize;
     for mark in marks {
@@ -50,7 +49,7 @@ pub fn marked(marks: &[bool]) -> usize {
     count
 }
 
-/// Sets the item at this place.
+/// Sets the item at this index, if there is one.
 pub fn put<T: Copy + Drop>(items: &mut [T], index: usize, item: T) {
     if index < items.len() {
         items[index] = item;
@@ -64,7 +63,7 @@ pub fn fill<T: Copy + Drop>(items: &mut [T], item: T) {
     }
 }
 
-/// Copies the items one by one, as far as both lists go.
+/// Copies the items, as far as both slices go.
 pub fn copy<T: Copy + Drop>(from: &[T], into: &mut [T]) {
     let count = into.len().min(from.len());
     for place in 0..count {
@@ -72,7 +71,7 @@ pub fn copy<T: Copy + Drop>(from: &[T], into: &mut [T]) {
     }
 }
 
-/// Adds the amounts one by one, as far as both lists go.
+/// Adds `from` to `into` item by item, as far as both slices go.
 pub fn add(from: &[i64], into: &mut [i64]) {
     let count = into.len().min(from.len());
     for place in 0..count {
@@ -80,7 +79,7 @@ pub fn add(from: &[i64], into: &mut [i64]) {
     }
 }
 
-/// Gathers the items at these places.
+/// Gathers the items at these indices.
 pub fn gather<T: Copy + Default + Drop>(items: &[T], places: &[usize], into: &mut [T]) {
     let count = into.len().min(places.len());
     for index in 0..count {
@@ -88,7 +87,7 @@ pub fn gather<T: Copy + Default + Drop>(items: &[T], places: &[usize], into: &mu
     }
 }
 
-/// The least sum of two numbers that stand at one place, or `FAR` where none is less.
+/// The least sum of two items at one index, at most `FAR`.
 pub fn least_sum(some: &[u32], others: &[u32]) -> u32 {
     let count = some.len().min(others.len());
     let mut least = FAR;
@@ -98,7 +97,7 @@ pub fn least_sum(some: &[u32], others: &[u32]) -> u32 {
     least
 }
 
-/// Sets each number to the sum of the two that stand at its place.
+/// Sets each item to the sum of the two at its index.
 pub fn set_sums(some: &[u32], others: &[u32], into: &mut [u32]) {
     let count = into.len().min(some.len()).min(others.len());
     for place in 0..count {
@@ -106,7 +105,7 @@ pub fn set_sums(some: &[u32], others: &[u32], into: &mut [u32]) {
     }
 }
 
-/// Sets each number to the difference of the two that stand at its place.
+/// Sets each item to the difference of the two at its index.
 pub fn set_differences(some: &[i32], others: &[i32], into: &mut [i32]) {
     let count = into.len().min(some.len()).min(others.len());
     for place in 0..count {
@@ -114,7 +113,7 @@ pub fn set_differences(some: &[i32], others: &[i32], into: &mut [i32]) {
     }
 }
 
-/// Raises each number by the other one, but by no more than this.
+/// Raises each item by the other one, by at most `most`.
 pub fn raise(items: &mut [i32], others: &[i32], most: i32) {
     let count = items.len().min(others.len());
     for place in 0..count {
@@ -122,7 +121,7 @@ pub fn raise(items: &mut [i32], others: &[i32], most: i32) {
     }
 }
 
-/// Lowers each number to the other one, where that is less.
+/// Sets each item to the lesser of it and the other one.
 pub fn lower(items: &mut [i32], others: &[i32]) {
     let count = items.len().min(others.len());
     for place in 0..count {
@@ -130,7 +129,7 @@ pub fn lower(items: &mut [i32], others: &[i32]) {
     }
 }
 
-/// Lowers each number to the base and a length less a potential, where that is less.
+/// Sets each item to the lesser of it and its reduced length: base plus length less potential.
 pub fn lower_reduced(items: &mut [i32], base: i32, lengths: &[i32], potentials: &[i32]) {
     let count = items.len().min(lengths.len()).min(potentials.len());
     for place in 0..count {
@@ -141,7 +140,7 @@ pub fn lower_reduced(items: &mut [i32], base: i32, lengths: &[i32], potentials: 
     }
 }
 
-/// Adds the numbers, weighed by the flow, to the amounts one by one, as far as both lists go.
+/// Adds the numbers times the flow to the items, as far as both slices go.
 pub fn add_weighed(flow: i64, numbers: &[u32], into: &mut [i64]) {
     let count = into.len().min(numbers.len());
     for place in 0..count {
@@ -149,7 +148,7 @@ pub fn add_weighed(flow: i64, numbers: &[u32], into: &mut [i64]) {
     }
 }
 
-/// The sum of the flows times the least of three lengths each: the one of now, and two by a place, `straight` and
+/// The sum of the flows times the least of three lengths: the present one, and two by way of a place, `straight` and
 /// `turned` from the origin to it.
 pub fn weighed_by(
     flows: &[u32],

@@ -1,10 +1,10 @@
-//! The legs of routes by way of some places, in tables row by row.
+//! The legs of routes over some places, as tables row by row.
 
 use crate::distances::Distances;
 use crate::rows::{FAR, at, gather, least_sum, put, row, row_mut};
 use std::alloc::{AllocError, Global};
 
-/// Lengths in rows of so many.
+/// Rows of lengths, all of one width.
 #[derive(Drop)]
 pub struct Table {
     cells: Vec<u32>,
@@ -12,24 +12,24 @@ pub struct Table {
 }
 
 impl Table {
-    /// So many rows of `FAR`, with room for so many lengths each.
+    /// A table of `FAR`, with `rows` rows for `places` lengths each.
     pub fn new(alloc: Global, rows: usize, places: usize) -> Result<Table, AllocError> {
         let width = places.div_ceil(8).wrapping_mul(8);
         let cells = vec![in alloc; FAR; rows.wrapping_mul(width)]?;
         Ok(Table { cells, width })
     }
 
-    /// The row of this number.
+    /// The row of this index.
     pub fn row(&self, index: usize) -> &[u32] {
         row(&self.cells, index, self.width)
     }
 
-    /// The row of this number, to be written.
+    /// The row of this index, mutable.
     pub fn row_mut(&mut self, index: usize) -> &mut [u32] {
         row_mut(&mut self.cells, index, self.width)
     }
 
-    /// The same rows, of these places alone.
+    /// The same rows over these places alone.
     fn gathered(&self, alloc: Global, rows: usize, places: &[usize]) -> Result<Table, AllocError> {
         let mut table = Table::new(alloc, rows, places.len())?;
         for i in 0..rows {
@@ -38,7 +38,7 @@ impl Table {
         Ok(table)
     }
 
-    /// For each row of this table and each of so many of the other, the least sum of the two.
+    /// For each row of this table and each row of the other, the least sum of the two.
     fn least_sums(
         &self,
         alloc: Global,
@@ -56,8 +56,7 @@ impl Table {
     }
 }
 
-/// Legs of collection, a row for each origin, and of delivery, a row for each destination, and those between places, also turned. What
-/// stands past the last place of a row is `FAR`.
+/// The legs of routes over some places. Past the last place of a row stands `FAR`.
 #[derive(Drop)]
 pub struct Legs {
     /// The legs from each origin to the places.
@@ -71,7 +70,7 @@ pub struct Legs {
 }
 
 impl Legs {
-    /// Legs between so many nodes and places, all `FAR`.
+    /// Legs between `size` nodes and `places` places, all `FAR`.
     pub(crate) fn new(alloc: Global, size: usize, places: usize) -> Result<Legs, AllocError> {
         Ok(Legs {
             collect: Table::new(alloc, size, places)?,
@@ -81,7 +80,7 @@ impl Legs {
         })
     }
 
-    /// Turns the trunk legs between so many places.
+    /// Sets the transposed trunk legs.
     pub(crate) fn turn(&mut self, places: usize) {
         for k in 0..places {
             for m in 0..places {
@@ -90,7 +89,7 @@ impl Legs {
         }
     }
 
-    /// The same legs of so many nodes by way of these places alone.
+    /// The same legs over these places alone.
     fn over(&self, alloc: Global, size: usize, places: &[usize]) -> Result<Legs, AllocError> {
         let mut legs = Legs::new(alloc, 0, places.len())?;
         legs.collect = self.collect.gathered(alloc, size, places)?;
@@ -102,19 +101,19 @@ impl Legs {
         Ok(legs)
     }
 
-    /// Tells whether the trunk legs are the same both ways.
+    /// Returns whether trunk legs are symmetric.
     fn has_even_trunk(&self) -> bool {
         self.trunk.cells.as_slice() == self.trunk_back.cells.as_slice()
     }
 
-    /// Tells whether all legs are the same both ways.
+    /// Returns whether all legs are symmetric.
     pub(crate) fn are_even(&self) -> bool {
         self.collect.cells.as_slice() == self.deliver.cells.as_slice() && self.has_even_trunk()
     }
 }
 
-/// The legs of an instance by way of some places, with the least lengths of a leg and a trunk leg, and distances where no route may
-/// be longer than a limit.
+/// The legs of an instance over some places, with the least lengths of two legs, and distances where `--max-length`
+/// limits routes.
 #[derive(Drop)]
 pub struct Tables {
     /// The number of nodes.
@@ -123,17 +122,17 @@ pub struct Tables {
     pub places: usize,
     /// The legs.
     pub legs: Legs,
-    /// The least lengths from each origin to the places by another or the same.
+    /// From each origin to each place, the least length of collection and trunk leg.
     pub(crate) collect_near: Table,
-    /// The least lengths to each destination from the places by another or the same.
+    /// To each destination from each place, the least length of trunk leg and delivery.
     pub(crate) deliver_near: Table,
-    /// Whether trunk legs are the same both ways.
+    /// Whether trunk legs are symmetric.
     pub(crate) has_even_trunk: bool,
     pub(crate) distances: Option<Distances>,
 }
 
 impl Tables {
-    /// The tables of these legs and distances between so many nodes and places.
+    /// The tables of these legs and distances.
     pub(crate) fn of(
         alloc: Global,
         counts: [usize; 2],
@@ -154,7 +153,7 @@ impl Tables {
         })
     }
 
-    /// The tables by way of these places alone, counted anew.
+    /// The tables over these places alone, with new indices.
     pub fn over(&self, alloc: Global, places: &[usize]) -> Result<Tables, AllocError> {
         let distances = match &self.distances {
             None => None,
@@ -168,7 +167,7 @@ impl Tables {
         Tables::of(alloc, [self.size, places.len()], legs, distances)
     }
 
-    /// Tells whether no route may be longer than a limit.
+    /// Returns whether `--max-length` limits routes.
     pub fn has_limit(&self) -> bool {
         self.distances.is_some()
     }

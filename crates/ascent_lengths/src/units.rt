@@ -1,22 +1,22 @@
-//! The units that lengths and flows are told in, so that both fit 32 bits.
+//! Units of lengths and flows, in which both fit 32 bits.
 //!
-//! The unit of lengths is a divisor of them all, as fine as can be while flows need not be rounded. Where no divisor
-//! is great enough, lengths are rounded, and where the two together are too great, flows are.
+//! The unit of lengths divides them all, and is as fine as possible while flows need no rounding. Where no divisor is
+//! great enough, lengths are rounded; where lengths and flows together are too great, flows are rounded.
 
 ghost use Rattle.std.specs.Prelude.{◌≤◌};
 
 use hub_model::Instance;
 
-/// No route is longer, in the unit of lengths.
+/// The greatest length of a route, in the unit of lengths.
 const MOST_LENGTH: u128 = 1 << 28;
-/// No flow times the longest route is more, in the units of both: 256 of them do not wrap 64 bits.
+/// The greatest product of a flow and the longest route, in both units: 256 of them do not wrap 64 bits.
 const MOST_SINGLE: u128 = 1 << 54;
-/// All flows times the longest route are no more, in the units of both.
+/// The greatest product of all flows and the longest route, in both units.
 const MOST_TOTAL: u128 = 1 << 60;
-/// No flow is greater, in the unit of flows.
+/// The greatest flow, in the unit of flows.
 const MOST_FLOW: u128 = (1 << 32) - 1;
 
-/// The unit of lengths, the unit of flows, both in 10^-6, and the length of the longest route in that unit.
+/// The unit of lengths and the unit of flows, both in 10^-6, and the length of the longest route in that unit.
 #[derive(Clone, Copy)]
 pub(crate) struct Units {
     pub(crate) length: u64,
@@ -55,7 +55,7 @@ impl Flows {
         }
     }
 
-    /// How long the longest route may be, so that the flows need not be rounded.
+    /// The greatest length of the longest route at which flows need no rounding.
     fn most_length(&self) -> u128 {
         let common = self.common.max(1);
         let single = MOST_SINGLE / (self.most / common).max(1);
@@ -63,7 +63,7 @@ impl Flows {
         single.min(all).min(MOST_LENGTH).max(1)
     }
 
-    /// The unit of flows, where no route is longer than this.
+    /// The unit of flows, given a bound on the length of routes.
     fn unit(&self, longest: u32) -> u64 {
         let longest = longest.max(1) as u128;
         let least = self
@@ -79,7 +79,7 @@ impl Flows {
     }
 }
 
-/// A unit of distances in which none is above `MOST_LENGTH`: their common divisor, where that is great enough.
+/// The unit of distances: their greatest common divisor, or a coarser unit in which none is above `MOST_LENGTH`.
 pub(crate) fn distance_unit(instance: &Instance) -> u64
     ensures { 1 ≤ result }
 {

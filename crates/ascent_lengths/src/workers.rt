@@ -1,13 +1,13 @@
-//! Who works out advice.
+//! The threads that share the work of a heuristic.
 
 ghost use Rattle.std.specs.Prelude.{◌≤◌};
 
 use std::alloc::Global;
 
-/// No more workers share a work.
+/// The greatest number of workers that share a job.
 pub const MOST_WORKERS: u32 = 64;
 
-/// Who does the work: so many workers, and the memory that they take.
+/// The workers of a job: how many there are, and what they take memory from.
 #[derive(Drop)]
 pub struct Workers<'a, R> {
     /// The runtime's handle.
@@ -19,7 +19,7 @@ pub struct Workers<'a, R> {
 }
 
 impl<R> Workers<'_, R> {
-    /// How many of them share a work in blocks.
+    /// The number of workers that share a job in blocks.
     pub fn many(&self) -> u32
         ensures { (1 ≤ result) × (result ≤ 64) }
     {
