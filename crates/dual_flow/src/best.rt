@@ -1,31 +1,31 @@
-//! The best dual of a commodity at prices.
+//! The best dual of a commodity at given penalties of the hubs.
 
 use crate::network::{FULL_PRICE, Network};
 use crate::ways::Way;
 use ascent_lengths::{Commodity, FAR, Others, PlaceValues, at, gather, row, row_mut};
 use std::alloc::{AllocError, Global};
 
-/// With so many priced places all of them are searched for a cap.
+/// From this many priced places on, all of them are tried for a cap.
 const MANY: usize = 32;
 
-/// The prices by place, and the places whose prices count.
+/// The penalties by place, and the places whose penalties count.
 #[derive(Clone, Copy)]
 pub struct Priced<'a> {
-    /// The prices by place.
+    /// The penalty of each place.
     pub prices: &'a [i64],
-    /// The places whose prices count.
+    /// The places whose penalties count.
     pub places: &'a [usize],
 }
 
-/// A priced place as the only hub of a route: the route's length, and the place's price.
+/// A place as the only hub of a route: the route's length, and the place's penalty.
 #[derive(Clone, Copy, PartialEq, Eq, PartialOrd, Ord)]
 struct Single {
     length: u32,
     price: i64,
 }
 
-/// What finds the best dual of a commodity, and its values once they are found. The legs of the places in the network stand in
-/// lists of their own.
+/// A solver of the best dual of a commodity, with the values that it found last. The legs of the places in the network
+/// are vectors of their own.
 #[derive(Drop)]
 pub struct BestDual {
     network: Network,
@@ -38,7 +38,7 @@ pub struct BestDual {
 }
 
 impl BestDual {
-    /// What finds duals over so many places.
+    /// A solver over this many places.
     pub fn new(alloc: Global, places: usize) -> Result<BestDual, AllocError> {
         Ok(BestDual {
             network: Network::new(alloc, places)?,
@@ -51,13 +51,13 @@ impl BestDual {
         })
     }
 
-    /// The values that were found last.
+    /// The values of the last solution.
     pub fn values(&self) -> &[u32] {
         self.found.values()
     }
 
-    /// Finds the best values of the priced places, and gives the commodity's own price, which is at most the cap and was
-    /// `last` before. Other places have no values as yet.
+    /// Solves for the values of the priced places, and returns the commodity's price: at most `cap`. `last` is the
+    /// price before. The other places have no values yet.
     pub fn find(&mut self, legs: &Commodity<'_>, priced: Priced<'_>, cap: u32, last: u32) -> u32 {
         let cap = cap.min(self.single_cap(legs, priced, last));
         let legs = legs.below(cap);
@@ -72,16 +72,16 @@ impl BestDual {
         price
     }
 
-    /// Gives each of these places, in order, the least value that is asked of it.
+    /// Sets the value of each of these places, in order, to the least that its routes require.
     pub fn complete(&mut self, legs: &Commodity<'_>, others: &[usize]) {
         self.found.settle_asked(legs, others);
     }
 
-    /// The length by some single place, of which no best price is above.
+    /// An upper bound on the best price: the length of the route over some single place.
     ///
-    /// Two full prices are sent. Of the places with the shortest single routes whose prices come to that, one has room
-    /// left before the last part is sent, so that a way no longer than its single route is open. Those near the last price mostly
-    /// are enough.
+    /// Two full units of flow are sent. Take the places with the shortest single routes whose penalties together reach
+    /// two units: one has room left before the last unit is sent, so an augmenting path no longer than its single route
+    /// is open. Places near the last price mostly suffice.
     fn single_cap(&mut self, legs: &Commodity<'_>, priced: Priced<'_>, last: u32) -> u32 {
         for more in [last / 16, last / 4, last] {
             let limit = last.saturating_add(more).min(FAR - 1);
@@ -97,7 +97,8 @@ impl BestDual {
         self.cap_within(legs, priced, FAR - 1).unwrap_or(FAR)
     }
 
-    /// The same, where just single routes no longer than this count; none if their places' prices do not come to two full ones.
+    /// The same over single routes no longer than the limit; none if the penalties of their places are below two full
+    /// units.
     fn cap_within(&mut self, legs: &Commodity<'_>, priced: Priced<'_>, limit: u32) -> Option<u32> {
         self.singles.clear();
         let mut sum = 0i64;
@@ -124,7 +125,7 @@ impl BestDual {
         None
     }
 
-    /// Lists the priced places by which some route is shorter than the cap.
+    /// Lists the priced places over which some route is shorter than the cap.
     fn list_near(&mut self, legs: &Commodity<'_>, priced: &[usize], cap: u32) {
         self.places.clear();
         for k in priced {
@@ -135,7 +136,7 @@ impl BestDual {
         }
     }
 
-    /// Makes the network of the listed places.
+    /// Builds the network of the listed places.
     fn connect(&mut self, legs: &Commodity<'_>, prices: &[i64]) {
         let count = self.places.len();
         self.network.begin(count);

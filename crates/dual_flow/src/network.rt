@@ -1,29 +1,30 @@
-//! The flow that finds the best dual of a commodity at prices.
+//! The minimum-cost flow whose dual is the best dual of a commodity.
 //!
-//! Each priced place has two copies, a left one that takes flow from the source and a right one that gives it to the
-//! sink, each no more than its price. An arc from left to right is a pair of hubs, and costs its length. One more
-//! copy on either side has no limit: the arcs to it are single hubs. Two full prices are sent, along cheapest ways,
-//! as long as a way is cheaper than the cap. Potentials then are twice the values: those of the two copies of a
-//! place, added.
+//! Each priced place has two copies: a left one, fed by the source, and a right one, which feeds the sink. The penalty
+//! of the place is the capacity of each. An arc from left to right is a pair of hubs and costs the route's length. One
+//! more copy on either side has no limit; the arcs to it are single hubs. Two full units are sent along shortest paths,
+//! as long as a path is cheaper than the cap. Then the value of a place is half the sum of the potentials of its two
+//! copies.
 
 use ascent_lengths::{
     NONE, at, fill, lower, lower_reduced, put, raise, row, row_mut, set_differences, short, small,
 };
 use std::alloc::{AllocError, Global};
 
-/// The price of a place that is fully open.
+/// The penalty of a place that is fully open: one full unit of flow.
 pub const FULL_PRICE: i64 = 1 << 12;
 
-/// The turn of a copy that was not reached.
+/// The number of a copy that was not reached.
 const NEVER: i32 = i32::MAX;
-/// What lies over the distance of a copy whose turn has come: with its bits, no distance is below.
+/// A mask over the distance of a copy that is settled: with these bits set no distance is less.
 const SHUT: i32 = i32::MAX;
-/// No more ways are sent along, whatever happens.
+/// A limit on the number of augmenting paths.
 const MOST_WAYS: usize = 100_000;
 
 /// The copies of the places on one side.
 ///
-/// Of a search: how far each is, when it was reached (0: from the source), and the copy that it was reached from.
+/// Of a shortest-path search it has each copy's distance, the number in which it was reached (0: from the source), and
+/// the copy before it.
 #[derive(Drop)]
 pub(crate) struct Copies {
     pub(crate) capacities: Vec<i32>,
@@ -46,13 +47,13 @@ impl Copies {
         })
     }
 
-    /// Forgets potentials and capacities of so many copies.
+    /// Clears potentials and capacities of this many copies.
     fn clear(&mut self, width: usize) {
         fill(row_mut(&mut self.potentials, 0, width), 0);
         fill(row_mut(&mut self.capacities, 0, width), 0);
     }
 
-    /// Raises each potential of so many copies by its distance, but by no more than the sink's.
+    /// Raises each of this many potentials by its distance, but by no more than the sink's.
     fn raise(&mut self, width: usize, most: i32) {
         raise(
             row_mut(&mut self.potentials, 0, width),
@@ -61,14 +62,14 @@ impl Copies {
         );
     }
 
-    /// Begins a search at so many of these copies, at those with room.
+    /// Starts a search from those of this many copies that have capacity left.
     fn leave(&mut self, width: usize) {
         let rooms = row(&self.capacities, 0, width);
         set_where_room(rooms, 0, NONE, &mut self.distances);
         set_where_room(rooms, 0, NEVER, &mut self.turns);
     }
 
-    /// Takes this much from what may still flow through the copy, and tells whether nothing is left.
+    /// Lowers the capacity that is left at a copy, and returns whether none is left.
     pub(crate) fn use_up(&mut self, index: usize, amount: i32) -> bool {
         let left = at(&self.capacities, index).wrapping_sub(amount);
         put(&mut self.capacities, index, left);
@@ -76,10 +77,10 @@ impl Copies {
     }
 }
 
-/// The two sides of copies, their arcs and what flows in them; with the room that was taken for them.
+/// The network: the copies of both sides, the arc costs and the flow.
 ///
-/// Flows stand by the right copy, and `feeders` has a bit for each left one from which flow comes to it. `open` has a bit for each left
-/// copy with room, and `base` the least costs of arcs from these, if `has_base`.
+/// Flows stand in the row of the right copy, and `feeders` has a bit for each left copy with flow to it. `open` has a
+/// bit for each left copy with capacity left, and `base` the least arc costs from these, if `has_base`.
 #[derive(Drop)]
 pub(crate) struct Network {
     count: usize,
@@ -97,7 +98,7 @@ pub(crate) struct Network {
     pub(crate) right: Copies,
 }
 
-/// The end of a search: how far the sink is, and the right copy that the way leaves from, if it is below the cap.
+/// The result of a search: the distance of the sink, and the right copy before it, if the path is cheaper than the cap.
 #[derive(Clone, Copy)]
 pub(crate) struct End {
     distance: i32,
@@ -105,7 +106,7 @@ pub(crate) struct End {
 }
 
 impl Network {
-    /// A network with room for so many places.
+    /// A network with room for this many places.
     pub(crate) fn new(alloc: Global, places: usize) -> Result<Network, AllocError> {
         let room = places.wrapping_add(1).div_ceil(8).wrapping_mul(8);
         let cells = room.wrapping_mul(room);
@@ -127,7 +128,7 @@ impl Network {
         })
     }
 
-    /// Begins a network of so many places, whose arcs are to be set.
+    /// Starts a network of this many places, without arcs.
     pub(crate) fn begin(&mut self, places: usize) {
         self.count = places.wrapping_add(1);
         self.width = self.count.div_ceil(8).wrapping_mul(8);
@@ -144,7 +145,7 @@ impl Network {
         self.limit(places, 4 * FULL_PRICE as i32);
     }
 
-    /// Lets this much flow through both copies of a place.
+    /// Sets the capacity of both copies of a place.
     pub(crate) fn limit(&mut self, x: usize, capacity: i32) {
         put(&mut self.left.capacities, x, capacity);
         put(&mut self.right.capacities, x, capacity);
@@ -153,13 +154,13 @@ impl Network {
         }
     }
 
-    /// The costs of the arcs from a place to so many places, in order.
+    /// The costs of the arcs from a place to this many places.
     pub(crate) fn costs_mut(&mut self, x: usize, places: usize) -> &mut [i32] {
         let row = row_mut(&mut self.costs, x, self.width);
         row_mut(row, 0, places)
     }
 
-    /// Sets the cost of both arcs of a place as the single hub, and ends its row behind so many places.
+    /// Sets the cost of both arcs of a place as a single hub, and ends its row after this many places.
     pub(crate) fn end_row(&mut self, x: usize, places: usize, alone: u32) {
         let row = row_mut(&mut self.costs, x, self.width);
         if let Some(rest) = row.get_mut(places..) {
@@ -179,7 +180,7 @@ impl Network {
         at(row(&self.costs, x, self.width), m)
     }
 
-    /// Sends what is to be sent, and gives the sink's potential, at most the cap.
+    /// Sends two full units of flow, and returns the potential of the sink, at most the cap.
     pub(crate) fn solve(&mut self, cap: u32, way: &mut crate::ways::Way) -> u32 {
         let mut sink = 0;
         let mut wanted = 2 * FULL_PRICE as i32;
@@ -198,14 +199,14 @@ impl Network {
         sink.max(0) as u32
     }
 
-    /// The value of a place: half the potentials of its copies, where the sink's is `price`.
+    /// The value of a place: half the sum of its copies' potentials, where the sink's is `price`.
     pub(crate) fn value(&self, x: usize, price: u32) -> u32 {
         let right = price.saturating_sub(at(&self.right.potentials, x).max(0) as u32);
         let left = at(&self.left.potentials, x).max(0) as u32;
         left.wrapping_add(right).div_ceil(2)
     }
 
-    /// Looks for the cheapest way to the sink.
+    /// Finds the shortest path to the sink.
     fn search(&mut self, sink: i32, cap: i32) -> End {
         self.leave_source();
         let mut turn = 1;
@@ -236,7 +237,7 @@ impl Network {
         end
     }
 
-    /// Begins a search at the left copies with room.
+    /// Starts a search from the left copies with capacity left.
     fn leave_source(&mut self) {
         if !self.has_base {
             self.set_base();
@@ -250,7 +251,7 @@ impl Network {
         ascent_lengths::copy(&self.open, &mut self.reached);
     }
 
-    /// Finds the least costs of arcs from left copies with room.
+    /// Finds the least arc costs from left copies with capacity left.
     fn set_base(&mut self) {
         let base = row_mut(&mut self.base, 0, self.width);
         fill(base, NONE);
@@ -262,7 +263,7 @@ impl Network {
         self.has_base = true;
     }
 
-    /// The nearest of the right copies whose turn has not come, if one is nearer than the limit.
+    /// The nearest right copy that is not settled, if one is nearer than the limit.
     fn nearest(&self, limit: i32) -> Option<usize> {
         let distances = row(&self.right.distances, 0, self.width);
         let (shut, numbers) = (self.right.shut.as_slice(), self.numbers.as_slice());
@@ -283,7 +284,7 @@ impl Network {
         Some(first.max(0) as usize)
     }
 
-    /// Goes back from a right copy to the left ones whose flow it takes, and on from these. It gives the next turn.
+    /// Follows flow backwards from a right copy to left ones, and relaxes the arcs of these. Returns the next number.
     fn go_back(&mut self, m: usize, near: i32, turn: i32) -> i32 {
         let mut turn = turn;
         for word in 0..self.words {
@@ -309,7 +310,7 @@ impl Network {
         turn
     }
 
-    /// Goes on from a left copy to all right ones.
+    /// Relaxes the arcs from a left copy to all right ones.
     fn go_on(&mut self, x: usize, distance: i32) {
         let base = distance.wrapping_add(at(&self.left.potentials, x));
         lower_reduced(
@@ -320,7 +321,7 @@ impl Network {
         );
     }
 
-    /// A left copy that was reached before the right one, and has a tight arc to it.
+    /// A left copy that was reached before the right one, with a tight arc to it.
     pub(crate) fn tight(&self, m: usize) -> Option<usize> {
         let turn = at(&self.right.turns, m);
         let potential = at(&self.right.potentials, m);
@@ -343,7 +344,7 @@ impl Network {
     }
 }
 
-/// Sets each number to this where there is room, or else to the other.
+/// Sets each item to `there` where capacity is left, else to `elsewhere`.
 fn set_where_room(rooms: &[i32], there: i32, elsewhere: i32, into: &mut [i32]) {
     let count = rooms.len().min(into.len());
     for x in 0..count {
@@ -351,7 +352,7 @@ fn set_where_room(rooms: &[i32], there: i32, elsewhere: i32, into: &mut [i32]) {
     }
 }
 
-/// The numbers from 0 on, so many.
+/// The numbers from 0 on.
 fn numbers(alloc: Global, count: usize) -> Result<Vec<i32>, AllocError> {
     let mut numbers = Vec::with_capacity(alloc, count)?;
     for number in 0..count {

@@ -1,7 +1,7 @@
-//! Ways through a network, along which flow is sent.
+//! Augmenting paths through the network.
 //!
-//! Lengths are the same from place to place and back, and so are the capacities of both copies of a place. So the way that has
-//! left and right changed, gone the other way round, is mostly as cheap as the one that was found: it is tried at once.
+//! Lengths and the capacities of both copies of a place are often symmetric. Then the reverse path, with left and right
+//! swapped, is as cheap as the path that was found, and is tried at once.
 
 use crate::network::{Network, clear_bit, set_bit};
 use ascent_lengths::{at, put, row, row_mut};
@@ -14,22 +14,22 @@ struct Arc {
     to: usize,
 }
 
-/// The arcs of a way from the source to the sink, the last one first. Between an arc and the one before it flow is taken back.
+/// The arcs of a path from the source to the sink, the last one first. Between two arcs flow is taken back.
 #[derive(Drop)]
 pub(crate) struct Way {
     arcs: Vec<Arc>,
 }
 
 impl Way {
-    /// A way with room for so many places, as yet of no arcs.
+    /// An empty path with room for this many places.
     pub(crate) fn new(alloc: Global, places: usize) -> Result<Way, AllocError> {
         Ok(Way {
             arcs: Vec::with_capacity(alloc, places.saturating_add(2))?,
         })
     }
 
-    /// Sends along the way that was found to the right copy `last`, and along the same way turned, where that is as cheap. It
-    /// gives how much of what is wanted was sent.
+    /// Augments along the path that was found to the right copy `last`, and along its reverse if that is as cheap.
+    /// Returns the flow that was sent, at most `wanted`.
     pub(crate) fn send(&mut self, net: &mut Network, last: usize, sink: i32, wanted: i32) -> i32 {
         if !self.trace(net, last) {
             return 0;
@@ -50,7 +50,7 @@ impl Way {
         sent.wrapping_add(more.max(0))
     }
 
-    /// Finds the way back from a right copy to the source, and tells whether there is one.
+    /// Traces the path back from a right copy to the source, and returns whether there is one.
     fn trace(&mut self, net: &Network, last: usize) -> bool {
         self.arcs.clear();
         let mut to = last;
@@ -68,7 +68,7 @@ impl Way {
         false
     }
 
-    /// How much can be sent along the way, none above this.
+    /// The capacity of the path, at most `most`.
     fn room(&self, net: &Network, most: i32) -> i32 {
         let mut amount = most;
         let mut back: Option<usize> = None;
@@ -85,7 +85,7 @@ impl Way {
         }
     }
 
-    /// Sends so much along the way.
+    /// Sends this much flow along the path.
     fn shift_all(&self, net: &mut Network, amount: i32) {
         let mut back: Option<usize> = None;
         for arc in &self.arcs {
@@ -106,7 +106,7 @@ impl Way {
         }
     }
 
-    /// Turns the way: each left copy becomes the right one of its place, and the other way round.
+    /// Reverses the path: each left copy becomes the right one of its place, and the other way round.
     fn turn(&mut self) {
         let count = self.arcs.len();
         for e in 0..count / 2 {
@@ -125,7 +125,7 @@ impl Way {
         }
     }
 
-    /// Tells whether no way to the sink, whose potential this is, is cheaper than this one.
+    /// Returns whether no path to the sink, of this potential, is cheaper than this one.
     fn is_cheapest(&self, net: &Network, sink: i32) -> bool {
         let (left, right) = (
             net.left.potentials.as_slice(),
@@ -148,12 +148,12 @@ impl Way {
     }
 }
 
-/// What flows from a left copy to a right one.
+/// The flow from a left copy to a right one.
 fn flow(net: &Network, x: usize, m: usize) -> i32 {
     at(row(&net.flows, m, net.width), x)
 }
 
-/// Adds to what flows from a left copy to a right one.
+/// Adds to the flow from a left copy to a right one.
 fn shift(net: &mut Network, x: usize, m: usize, amount: i32) {
     let flow = flow(net, x, m).wrapping_add(amount);
     put(row_mut(&mut net.flows, m, net.width), x, flow);
