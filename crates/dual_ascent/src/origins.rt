@@ -1,4 +1,4 @@
-//! One origin of a pass: the duals of its commodities, bettered one after another.
+//! One origin of a pass: its commodities take their steps one after another.
 
 use crate::ramps::{NO_TURN, Ramp, Turn, balanced, set_order, set_prices};
 use crate::seen::Core;
@@ -8,28 +8,26 @@ use ascent_lengths::{Commodity, Lengths, at, copy, fill, gather, row, row_mut};
 use dual_flow::{BestDual, FULL_PRICE, Priced};
 use std::alloc::{AllocError, Global};
 
-/// What a pass reads of a node of the search.
-///
-/// Of the ramps there is one for each place that it is about. Of each commodity no price is to be above its cap. Where commodities
-/// wait, `little` is what a turn promises after which they do, in parts of the full price.
+/// What a pass reads of a node: a ramp for each place that it sees, an upper bound on each commodity's price, and
+/// `little`, the promised gain in parts of full up to which a commodity is left out next.
 #[derive(Clone, Copy)]
 pub struct Terms<'a> {
-    /// The ramps by place.
+    /// The ramp of each place.
     pub ramps: &'a [Ramp],
-    /// The caps by commodity.
+    /// The upper bound on the price of each commodity.
     pub caps: &'a [u32],
-    /// What is little, where commodities wait.
+    /// The gain up to which a commodity is left out; none where all take part.
     pub little: Option<i128>,
-    /// The wanted number of hubs, if one is.
+    /// The number p of hubs, if exactly p are required.
     pub hubs: Option<usize>,
-    /// What each hub last cost beside its fixed cost, where a number is wanted.
+    /// The last cost of each hub beside its fixed cost, for exactly p hubs.
     pub extra: i64,
-    /// Prices up to this one count as none.
+    /// Penalties up to this one count as 0.
     pub coarse: i64,
 }
 
 impl Terms<'_> {
-    /// What each hub costs beside its fixed cost at these loads, so that the prices add up to the wanted number of hubs.
+    /// The cost of each hub beside its fixed cost at these loads, at which the penalties add up to p hubs.
     pub fn extra_at(&self, loads: &[i64]) -> i64 {
         match self.hubs {
             None => 0,
@@ -38,8 +36,8 @@ impl Terms<'_> {
     }
 }
 
-/// What all origins of a pass have in common: the instance, the places that it sees, the terms over these, and how often an origin
-/// counts its own changes.
+/// What all origins of a pass share: the instance, the core, the terms over it, and how often an origin counts its own
+/// changes.
 #[derive(Clone, Copy)]
 pub(crate) struct View<'a> {
     pub(crate) lengths: &'a Lengths,
@@ -48,7 +46,7 @@ pub(crate) struct View<'a> {
     pub(crate) copies: u32,
 }
 
-/// A commodity that has its turn: its number, its legs, its flow and its cap.
+/// The commodity whose step is made: its legs, its flow and its cap.
 #[derive(Clone, Copy)]
 struct Turning<'a> {
     legs: Commodity<'a>,
@@ -56,8 +54,8 @@ struct Turning<'a> {
     cap: u32,
 }
 
-/// What one origin after another is bettered in: the loads that it starts from, those of now with their prices, the places in their order, split
-/// into those whose prices count and the others, and what it changes in the loads.
+/// The workspace of an origin: the loads it starts from, the present ones with their penalties, the order of the
+/// places, split by whether their penalties count, and the changes of the loads.
 #[derive(Drop)]
 pub(crate) struct Stand {
     best: BestDual,
@@ -74,7 +72,7 @@ pub(crate) struct Stand {
 }
 
 impl Stand {
-    /// What an origin over so many places is bettered in.
+    /// A workspace over this many places.
     pub(crate) fn new(alloc: Global, places: usize) -> Result<Stand, AllocError> {
         Ok(Stand {
             best: BestDual::new(alloc, places)?,
@@ -91,7 +89,7 @@ impl Stand {
         })
     }
 
-    /// Betters the duals of the origin, whose prices and values these are, from these loads, and gives what that brings.
+    /// Improves the duals of the origin, with these prices and values, from these loads. Returns the gain.
     pub(crate) fn better(
         &mut self,
         view: View<'_>,
@@ -119,12 +117,12 @@ impl Stand {
         gain
     }
 
-    /// What the origin that was bettered last changed in the loads.
+    /// The changes of the loads by the last origin.
     pub(crate) fn changes(&self) -> &[i64] {
         &self.changes
     }
 
-    /// Begins at these loads.
+    /// Starts from these loads.
     fn begin(&mut self, view: View<'_>, loads: &[i64]) {
         let terms = view.terms;
         let extra = terms.extra_at(loads);
@@ -137,7 +135,7 @@ impl Stand {
         self.is_split = false;
     }
 
-    /// Notes what was changed in the loads.
+    /// Records the changes of the loads.
     fn end(&mut self, view: View<'_>) {
         let copies = (view.copies as i64).max(1);
         fill(&mut self.changes, 0);
@@ -150,7 +148,7 @@ impl Stand {
         }
     }
 
-    /// Splits the places into those whose prices count and the others, in their order.
+    /// Splits the places by whether their penalties count, each part in order.
     fn split(&mut self, coarse: i64) {
         self.priced.clear();
         self.others.clear();
@@ -169,8 +167,8 @@ impl Stand {
         self.is_split = true;
     }
 
-    /// Betters the dual of a commodity with this price and wait, and gives what that brings. Where it promises little, the dual
-    /// stays as it is.
+    /// Makes the step of a commodity with this price and back-off, and returns its gain. Where the step promises
+    /// little, the dual stays as it is.
     fn better_one(
         &mut self,
         view: View<'_>,
@@ -216,7 +214,7 @@ impl Stand {
         }
     }
 
-    /// What a whole step promises, in which the commodity's own price changes by so much.
+    /// The gain that a whole step promises to first order, where the commodity's own price changes by `change`.
     fn promised(&self, change: i64) -> i64 {
         let (prices, old, new) = (
             self.prices.as_slice(),
@@ -232,8 +230,8 @@ impl Stand {
         change.wrapping_mul(FULL_PRICE).wrapping_sub(cost)
     }
 
-    /// Takes a step to the values that were found, where the commodity's own price changes by so much in a whole step.
-    /// It gives the parts of the step.
+    /// Makes a step towards the new values, where the commodity's own price changes by `change` in a whole step.
+    /// Returns the parts of the step that were made.
     fn step(&mut self, view: View<'_>, flow: i64, change: i64, values: &mut [u32]) -> u32 {
         let weight = flow.wrapping_mul(view.copies as i64);
         let new = self.best.values();

@@ -1,9 +1,8 @@
-//! One pass over the commodities that do not wait, that betters the dual of each at the prices of its turn.
+//! One ascent pass: each commodity that takes part makes a step at the penalties of its turn.
 //!
-//! Origins go one after another, those with the most turns first, and a few are under way at a time: each starts from the
-//! loads that are left by those that were over when it could start at the earliest, and counts its own changes as if some others did the
-//! same. So it makes no difference which of those under way is done first, and workers can do them side by side
-//! (`sharing`).
+//! Origins go one after another, those with the most steps first, and a few are under way at a time. Each starts from
+//! the loads that the origins before its window left, and counts its own changes as if some others did the same. So it
+//! makes no difference which of those under way ends first, and workers can do them side by side (`sharing`).
 
 ghost use Rattle.dual_ascent.specs.Shapes.{KeepsShape};
 
@@ -19,8 +18,7 @@ use ascent_lengths::{Lengths, Workers, add, copy, fill, gather, put, row, row_mu
 use std::alloc::{AllocError, Global};
 use std::thread::Threads;
 
-/// What a pass reads besides the duals: what all origins have in common, and the order of the origins with how many of them are
-/// under way at a time.
+/// What a pass reads besides the duals: what all origins share, their order, and how many are under way at a time.
 #[derive(Clone, Copy)]
 pub(crate) struct Pass<'a> {
     pub(crate) view: View<'a>,
@@ -28,7 +26,7 @@ pub(crate) struct Pass<'a> {
     pub(crate) window: Window,
 }
 
-/// What one worker makes a pass in: a stand, and a row of changes for each origin that is under way.
+/// The workspace of a pass by one worker: that of an origin, and a row of changes for each origin under way.
 #[derive(Drop)]
 struct InTurn {
     stand: Stand,
@@ -36,7 +34,7 @@ struct InTurn {
 }
 
 impl InTurn {
-    /// What a pass over so many nodes and places is made in.
+    /// A workspace for this many nodes and places.
     fn new(alloc: Global, size: usize, places: usize) -> Result<InTurn, AllocError> {
         let rows = Window::of(size).origins;
         Ok(InTurn {
@@ -45,7 +43,7 @@ impl InTurn {
         })
     }
 
-    /// Betters the duals of one origin after another, and gives what that brings. The sums follow.
+    /// Improves the duals of one origin after another, updates the sums, and returns the gain.
     fn better_all(
         &mut self,
         pass: Pass<'_>,
@@ -80,8 +78,7 @@ impl InTurn {
     }
 }
 
-/// What passes work with, besides the duals: the places that they see with their ramps and loads, the order of the origins, and what
-/// one worker makes a pass in.
+/// The workspace of passes: the core with its ramps and loads, the order of the origins, and what one worker needs.
 #[derive(Drop)]
 pub struct Bench {
     core: Core,
@@ -92,7 +89,7 @@ pub struct Bench {
 }
 
 impl Bench {
-    /// What passes that see these places need.
+    /// A workspace for passes that see these places.
     pub fn new(alloc: Global, lengths: &Lengths, places: &[usize]) -> Result<Bench, AllocError> {
         Ok(Bench {
             core: Core::of(alloc, lengths, places)?,
@@ -103,12 +100,12 @@ impl Bench {
         })
     }
 
-    /// The places that passes see.
+    /// The core.
     pub fn core(&self) -> &Core {
         &self.core
     }
 
-    /// Takes ramps and sums of the places that passes see from those of all places.
+    /// Copies ramps and sums of the core's places from those of all places.
     fn begin(&mut self, ramps: &[Ramp], sums: &Sums) {
         for (ramp, k) in self.ramps.iter_mut().zip(self.core.places()) {
             *ramp = ramps.get(*k).copied().unwrap_or(NO_RAMP);
@@ -117,7 +114,7 @@ impl Bench {
         gather(&sums.loads, self.core.places(), &mut self.sums.loads);
     }
 
-    /// Puts the sums in their place among those of all places.
+    /// Copies the sums back to those of all places.
     fn end(&self, sums: &mut Sums) {
         sums.total = self.sums.total;
         for (load, k) in self.sums.loads.iter().zip(self.core.places()) {
@@ -127,10 +124,9 @@ impl Bench {
 }
 
 impl State {
-    /// Betters the duals of all commodities that do not wait by one pass of so many workers, at most 64, and gives what
-    /// that brings. It sees the places of the bench alone.
+    /// Makes one ascent pass with at most 64 workers over the places of the core, and returns its gain.
     ///
-    /// They come out the same, whatever the workers. Where there is no memory for several, one makes the pass.
+    /// The result is the same for every number of workers. Where there is no memory for several, one makes the pass.
     pub fn pass<'a, R: Threads + Sync>(
         &mut self,
         workers: &Workers<'_, R>,
@@ -174,7 +170,7 @@ impl State {
     }
 }
 
-/// Betters the duals by several workers, or by one.
+/// Makes the pass by several workers, or by one.
 fn better_pass<R: Threads + Sync>(
     workers: &Workers<'_, R>,
     pass: Pass<'_>,

@@ -1,15 +1,15 @@
-//! The order of the origins in a pass, those with the most turns first, and how many of them are under way at a time.
+//! The order of the origins in a pass, those with the most steps first, and how many are under way at a time.
 
 use crate::waits::Quote;
 use ascent_lengths::{Lengths, row, short};
 
-/// For so many nodes one origin more is under way, whatever the workers.
+/// One more origin is under way for each of this many nodes, whatever the workers.
 const NODES_FOR_AN_ORIGIN: usize = 50;
 
 /// How many origins are under way at a time, and how often each counts its own changes.
 ///
-/// An origin starts from the loads that all those before it left, but for the last ones, which are still under way. About as
-/// many go on beside it as it has before it, so it counts its changes as if a few others did the same.
+/// An origin starts from the loads that all before it left, except the last ones, which are still under way. So about
+/// as many others change the loads meanwhile, and it counts its own changes as if some of them did the same.
 #[derive(Clone, Copy)]
 pub(crate) struct Window {
     pub(crate) origins: usize,
@@ -17,7 +17,7 @@ pub(crate) struct Window {
 }
 
 impl Window {
-    /// The window of passes over so many nodes.
+    /// The window for this many nodes.
     pub(crate) fn of(size: usize) -> Window {
         let copies = size.div_ceil(NODES_FOR_AN_ORIGIN).max(1);
         Window {
@@ -26,26 +26,26 @@ impl Window {
         }
     }
 
-    /// How many origins are over when the one at this place starts.
+    /// How many origins are finished when the one at this position starts.
     pub(crate) fn over_before(self, place: usize) -> usize {
         place.wrapping_add(1).saturating_sub(self.origins)
     }
 }
 
-/// An origin, and how many of its commodities have no turn in the next pass.
+/// An origin, and how many of its commodities the next pass leaves out.
 #[derive(Clone, Copy, PartialEq, Eq, PartialOrd, Ord)]
 pub(crate) struct ScheduledOrigin {
     left_out: usize,
     pub(crate) origin: usize,
 }
 
-/// An origin to fill lists with.
+/// An origin to fill vectors with.
 pub(crate) const NO_ORIGIN: ScheduledOrigin = ScheduledOrigin {
     left_out: 0,
     origin: 0,
 };
 
-/// Puts the origins in the order of how many of their commodities the next pass leaves out, the fewest first.
+/// Sorts the origins by how many of their commodities the next pass leaves out, the fewest first.
 pub(crate) fn schedule(lengths: &Lengths, quotes: &[Quote], origins: &mut [ScheduledOrigin]) {
     for i in 0..origins.len() {
         let quotes = row(quotes, i, lengths.size);
@@ -58,7 +58,7 @@ pub(crate) fn schedule(lengths: &Lengths, quotes: &[Quote], origins: &mut [Sched
     origins.sort_unstable();
 }
 
-/// How many commodities with these quotes and flows the next pass leaves out.
+/// How many commodities with these back-offs and flows the next pass leaves out.
 fn left_out(quotes: &[Quote], flows: &[u32]) -> usize {
     let mut count = 0usize;
     for (quote, flow) in quotes.iter().zip(flows) {
@@ -69,7 +69,7 @@ fn left_out(quotes: &[Quote], flows: &[u32]) -> usize {
     count
 }
 
-/// The origin at this place of the list, or the first one past its end.
+/// The origin at this position of the list, or 0 past its end.
 pub(crate) fn origin_at(origins: &[ScheduledOrigin], place: usize) -> usize {
     origins.get(place).map_or(0, |scheduled| scheduled.origin)
 }

@@ -1,7 +1,7 @@
-//! The places that passes see, numbered anew, with tables over them alone.
+//! The core: the places that passes see, with new indices, and tables over them alone.
 //!
-//! Most places never get a price. Passes that see just those near one go over shorter rows, and leave the values of the others as they
-//! are: these are out of date until they are put right.
+//! Most places never get a penalty. Passes that see only those near one have shorter rows. The values of the other
+//! places are out of date until they are completed.
 
 use ascent_lengths::{Lengths, Tables};
 use std::alloc::{AllocError, Global};
@@ -14,7 +14,7 @@ pub struct Core {
 }
 
 impl Core {
-    /// The core of these places.
+    /// The core with these places.
     pub fn of(alloc: Global, lengths: &Lengths, places: &[usize]) -> Result<Core, AllocError> {
         Ok(Core {
             places: places.to_vec(alloc)?,
@@ -32,7 +32,7 @@ impl Core {
         self.places.len()
     }
 
-    /// The tables over them, each by its number in the core.
+    /// The tables over them, by their indices in the core.
     pub fn tables(&self) -> &Tables {
         &self.tables
     }

@@ -1,8 +1,8 @@
-//! A pass by partners, several origins side by side.
+//! An ascent pass by several workers, which take origins side by side.
 //!
-//! Each partner follows the whole pass, and betters the origins that it draws (`Partner` of `desks`). Of each it tells the others
-//! what changed in the loads, so that all start each origin from the same loads. The duals are put in place when all are done: the
-//! memory that this takes goes by the commodities that changed.
+//! Each worker draws origins and improves their duals (`Partner` of `desks`). It sends the changes of the loads to the
+//! others, so that all start an origin from the same loads. The duals are written at the end: the memory for them
+//! depends on how many commodities changed.
 
 ghost use denote.Param.Send.{IsSync};
 
@@ -16,7 +16,7 @@ use desks::{Desk, Partner, Tickets, Told, desks};
 use std::alloc::{AllocError, Global};
 use std::thread::{Threads, join};
 
-/// What the origin at a place of the schedule brought, and what it changed in the loads.
+/// The result of the origin at a position of the schedule: its gain, and the changes of the loads.
 #[derive(Drop)]
 struct Bettered {
     place: usize,
@@ -32,7 +32,7 @@ impl Told<()> for Bettered {
     }
 }
 
-/// The new duals of an origin: all prices with their waits, and the values of the commodities that changed.
+/// The new duals of an origin: all prices with their back-offs, and the values of the commodities that changed.
 #[derive(Drop)]
 struct OriginDuals {
     origin: usize,
@@ -42,7 +42,7 @@ struct OriginDuals {
 }
 
 impl OriginDuals {
-    /// The duals of the origin that had some values and has others, a row of so many for each commodity.
+    /// The changed duals of an origin, from its values before and after.
     fn of(
         alloc: Global,
         origin: usize,
@@ -67,7 +67,7 @@ impl OriginDuals {
         Ok(duals)
     }
 
-    /// Puts them in place of those of the origin.
+    /// Writes them in place of the old ones.
     fn put(&self, lengths: &Lengths, quotes: &mut [Quote], values: &mut [u32]) {
         copy(&self.quotes, row_mut(quotes, self.origin, lengths.size));
         let values = row_mut(values, self.origin, lengths.origin_values());
@@ -81,7 +81,7 @@ impl OriginDuals {
     }
 }
 
-/// What partners bring: the duals of the origins that they bettered, and the sums and gains of the whole pass.
+/// The results of workers: the duals of the origins that they improved, and sums and gain of the whole pass.
 #[derive(Drop)]
 struct Crop {
     duals: Vec<OriginDuals>,
@@ -89,7 +89,7 @@ struct Crop {
     gain: Gain,
 }
 
-/// What partners share: the pass, duals and sums as it begins, and the numbers of the next turns.
+/// What the workers share: the pass, duals and sums at its start, and the next task numbers.
 #[derive(Clone, Copy)]
 struct Shared<'a> {
     pass: Pass<'a>,
@@ -99,15 +99,15 @@ struct Shared<'a> {
     tickets: &'a Tickets,
 }
 
-/// A partner's share of a pass.
+/// One worker of a pass.
 #[derive(Drop)]
 struct Share<'a> {
     shared: Shared<'a>,
     partner: Partner<'a, (), Bettered>,
     stand: Stand,
-    // The values of the origin that it betters.
+    // The values of the origin in work.
     values: Vec<u32>,
-    // How many origins are in its sums.
+    // How many origins its sums include.
     over: usize,
     crop: Crop,
 }
@@ -133,7 +133,7 @@ impl<'a> Share<'a> {
         })
     }
 
-    // Takes what the origins before this place brought into the sums.
+    // Adds the results of the origins before this position to the sums.
     fn settle(&mut self, place: usize) -> Result<(), AllocError> {
         for before in self.over..place {
             let Some(told) = self.partner.awaited(before as u64)? else {
@@ -148,7 +148,7 @@ impl<'a> Share<'a> {
         Ok(())
     }
 
-    // Betters the origin at this place, and tells what that brought.
+    // Improves the origin at this position, and sends the result.
     fn better(&mut self, alloc: Global, place: usize) -> Result<(), AllocError> {
         let shared = self.shared;
         let lengths = shared.pass.view.lengths;
@@ -176,7 +176,7 @@ impl<'a> Share<'a> {
         )
     }
 
-    // Follows the pass to its end.
+    // Works until the pass ends.
     fn follow(mut self, alloc: Global) -> Result<Crop, AllocError> {
         let window = self.shared.pass.window;
         let origins = self.shared.pass.origins.len();
@@ -195,7 +195,7 @@ impl<'a> Share<'a> {
 }
 
 impl<'a> Shared<'a> {
-    /// Follows the pass from this desk, and says so when it is at the end of it, or gave up.
+    /// Works as the peer of this ring until the pass ends, and signals that it ended or failed.
     fn follow(self, alloc: Global, desk: Desk<(), Bettered>) -> Result<Crop, AllocError> {
         let followed = match Share::new(alloc, self, desk) {
             Ok(share) => share.follow(alloc),
@@ -209,7 +209,7 @@ impl<'a> Shared<'a> {
     }
 }
 
-/// What the partners at these desks bring, each in a thread of its own where one can be made.
+/// The results of the workers at these rings, each in a thread of its own where one can be started.
 #[cycle(together)]
 fn together<R: Threads + Sync>(
     rt: &R,
@@ -234,8 +234,8 @@ fn together<R: Threads + Sync>(
     Ok(crop)
 }
 
-/// Betters the duals by partners, no more than origins can be under way, and gives what that brings. The sums follow. Where
-/// it is given up, nothing has changed.
+/// Makes the pass by several workers, at most as many as origins are under way. Updates duals and sums and returns the
+/// gain; on a failure nothing has changed.
 pub(crate) fn better_together<R: Threads + Sync>(
     workers: &Workers<'_, R>,
     pass: Pass<'_>,

@@ -12,8 +12,8 @@ use search_advice::Side;
 use std::alloc::{AllocError, Global};
 use std::marker::Model;
 
-/// The duals of all commodities in the small units: for each a price, with its wait, and a value for each place; with
-/// the sums of prices and values, weighed by the flows. It is seen as its shape.
+/// The duals of all commodities in coarse units: a price with its back-off, and a value for each place. `sums` has the
+/// sums of prices and values, weighted by the flows. Contracts see only its shape.
 #[derive(Drop)]
 pub struct State {
     pub(crate) size: usize,
@@ -35,7 +35,7 @@ impl Model for State {
 }
 
 impl State {
-    /// Duals of so many nodes and places, all 0.
+    /// Duals for this many nodes and places, all 0.
     pub fn new(alloc: Global, size: usize, places: usize) -> Result<State, AllocError>
         requires size { size ≤ most_nodes }
         requires places { places ≤ most_nodes }
@@ -51,28 +51,28 @@ impl State {
         })
     }
 
-    /// The values, commodity by commodity: a number for each place.
+    /// The values, commodity by commodity, one for each place.
     pub fn values(&self) -> &[u32]
         ensures { length result.now ≡ cells self.now }
     {
         &self.values
     }
 
-    /// Makes all values 0.
+    /// Sets all values to 0.
     pub fn clear_values(&mut self)
         ensures { KeepsShape self.old self.new }
     {
         fill(&mut self.values, 0);
     }
 
-    /// Sets the value of a place for the commodity of this number.
+    /// Sets the value of a place for the commodity of this index.
     pub fn put_value(&mut self, commodity: usize, k: usize, value: u32)
         ensures { KeepsShape self.old self.new }
     {
         scatter(&mut self.values, [commodity, self.places], &[k], &[value]);
     }
 
-    /// The prices and waits, commodity by commodity.
+    /// The prices and back-offs, commodity by commodity.
     pub fn quotes(&self) -> &[Quote] {
         &self.quotes
     }
@@ -89,25 +89,24 @@ impl State {
         &self.sums
     }
 
-    /// Takes over other sums.
+    /// Sets the sums.
     pub fn take_sums(&mut self, sums: &Sums)
         ensures { KeepsShape self.old self.new }
     {
         self.sums.take(sums);
     }
 
-    /// The bound of a branch with these sides by the cut of these duals, in 10^-12.
+    /// The bound of a branch with these sides by the Benders cut of these duals, in 10^-12.
     pub fn bound(&self, lengths: &Lengths, sides: &[Side]) -> i128 {
         self.sums.bound(lengths, sides)
     }
 
-    /// What passes raise at these terms: the price of all commodities less what their loads cost, with what the ramps
-    /// leave for a rise. It is weighed by the flows.
+    /// The objective that passes increase, by the ramps of these terms, weighted by the flows.
     pub fn objective(&self, terms: Terms<'_>) -> i128 {
         self.sums.objective(terms)
     }
 
-    /// Makes these prices and values, a row for each destination, the duals of the origin.
+    /// Sets the duals of an origin: a price and a row of values for each destination.
     pub fn put_origin(&mut self, i: usize, prices: &[u32], values: &[u32])
         ensures { KeepsShape self.old self.new }
     {
@@ -118,14 +117,14 @@ impl State {
         copy_into(values, &mut self.values, [i, values.len()]);
     }
 
-    /// Takes over these prices and waits.
+    /// Sets prices and back-offs.
     pub fn take_quotes(&mut self, quotes: &[Quote])
         ensures { KeepsShape self.old self.new }
     {
         copy(quotes, &mut self.quotes);
     }
 
-    /// Ends all waits, as if there had been none.
+    /// Clears all back-offs.
     pub fn end_waits(&mut self)
         ensures { KeepsShape self.old self.new }
     {
@@ -134,7 +133,7 @@ impl State {
         }
     }
 
-    /// Breaks all waits off.
+    /// Ends all back-offs; the next of each commodity is about twice as long.
     pub fn break_off_waits(&mut self)
         ensures { KeepsShape self.old self.new }
     {
@@ -143,7 +142,7 @@ impl State {
         }
     }
 
-    /// Ends the waits of the commodities that could gain where a place is turned.
+    /// Clears the back-off of each commodity that could gain where a place changes sides.
     pub fn end_waits_at(&mut self, lengths: &Lengths, found: &mut PlaceValues, turned: Turned)
         ensures { KeepsShape self.old self.new }
     {
@@ -156,7 +155,7 @@ impl State {
         }
     }
 
-    /// Leaves all commodities out of the next passes but those among the listed that could gain where a place is turned.
+    /// Leaves all commodities out of the next passes, except those listed that could gain where a place changes sides.
     pub(crate) fn leave_out_others(
         &mut self,
         lengths: &Lengths,
@@ -180,8 +179,8 @@ impl State {
         }
     }
 
-    /// Begins with these values, a number for each place of each commodity in order, none of them above any price, and
-    /// with the greatest prices that they allow. Past the end of the list they are 0.
+    /// Starts from these values, one for each place of each commodity in order, and from the greatest feasible prices.
+    /// Past the end of the list values are 0. None is greater than the longest route.
     pub fn begin_with(&mut self, lengths: &Lengths, found: &mut PlaceValues, values: &[u32])
         ensures { KeepsShape self.old self.new }
     {
@@ -203,7 +202,7 @@ impl State {
         }
     }
 
-    /// Gives each commodity without flow whose way back has the flow of both the values of this.
+    /// Gives each merged commodity without flow the values of its reverse.
     pub fn mirror(&mut self, lengths: &Lengths)
         ensures { KeepsShape self.old self.new }
     {
@@ -223,7 +222,7 @@ impl State {
     }
 }
 
-/// Sets the items of these places in a row of a table; the row is told by its number and width.
+/// Sets the items of these places in a row of a table, given by index and width.
 pub(crate) fn scatter(table: &mut [u32], index: [usize; 2], places: &[usize], items: &[u32]) {
     let items_of_row = row_mut(table, index[0], index[1]);
     for (k, item) in places.iter().zip(items) {
@@ -231,12 +230,12 @@ pub(crate) fn scatter(table: &mut [u32], index: [usize; 2], places: &[usize], it
     }
 }
 
-/// Copies the items into a row of a table, which is told by its number and width.
+/// Copies the items into a row of a table, given by index and width.
 fn copy_into(items: &[u32], table: &mut [u32], index: [usize; 2]) {
     copy(items, row_mut(table, index[0], index[1]));
 }
 
-/// Copies a row of so many items to another.
+/// Copies a row to another one.
 fn copy_row(table: &mut [u32], width: usize, from: usize, to: usize) {
     let (from, to) = (from.wrapping_mul(width), to.wrapping_mul(width));
     for k in 0..width {
@@ -245,25 +244,25 @@ fn copy_row(table: &mut [u32], width: usize, from: usize, to: usize) {
     }
 }
 
-/// Lowers the items to no more than this.
+/// Lowers each item to at most this.
 fn limit(items: &mut [u32], most: u32) {
     for item in items.iter_mut() {
         *item = (*item).min(most);
     }
 }
 
-/// A place that is opened, or closed.
+/// A place that changes sides.
 #[derive(Clone, Copy)]
 pub struct Turned {
     /// The place.
     pub place: usize,
-    /// Whether it is opened.
+    /// Whether it becomes a hub; else it is closed.
     pub is_opened: bool,
 }
 
 impl Turned {
-    /// Tells whether the dual of a commodity, told by its number and price, could gain then: it has a value there, or the place is closed
-    /// and some route by it is nearly as short as the values allow.
+    /// Returns whether the dual of a commodity, given by index and price, could gain: it has a value at the place, or
+    /// the place is closed and some route over it is nearly as short as the values allow.
     fn could_gain(
         &self,
         lengths: &Lengths,

@@ -1,14 +1,14 @@
-//! A mix of the old values of a commodity and new ones, by 64ths.
+//! The step of a commodity: a mix of old values and new ones, by 64ths.
 
 use crate::ramps::Ramp;
 use ascent_lengths::{at, put};
 use dual_flow::FULL_PRICE;
 use std::alloc::{AllocError, Global};
 
-/// The parts that a whole step has.
+/// The number of parts of a whole step.
 const PARTS: u32 = 64;
 
-/// A place whose value the step changes, with its load before the step and what a unit of value adds to the load.
+/// A place whose value the step changes, with its load before the step, and what one unit of value adds to the load.
 #[derive(Clone, Copy)]
 struct Change {
     place: usize,
@@ -20,7 +20,7 @@ struct Change {
 }
 
 impl Change {
-    /// What the change costs by a part of the step, after so many parts of it.
+    /// The cost of the next part of the step, after `part` parts of it.
     fn cost(&self, part: u32) -> i64 {
         let step = self.new as i64 - self.old as i64;
         let moved = self.weight.wrapping_mul(step).wrapping_mul(part as i64) >> 6;
@@ -30,30 +30,30 @@ impl Change {
     }
 }
 
-/// The changes of a step of one commodity.
+/// The changes of a step.
 #[derive(Drop)]
 pub(crate) struct Step {
     changes: Vec<Change>,
 }
 
-/// The loads by place and their prices, which follow a step.
+/// The loads and penalties of the places, which the step updates.
 #[derive(Drop)]
 pub(crate) struct Following<'a> {
     pub(crate) loads: &'a mut [i64],
     pub(crate) prices: &'a mut [i64],
-    /// Prices up to this one do not count.
+    /// Penalties up to this one count as 0.
     pub(crate) coarse: i64,
 }
 
 impl Step {
-    /// Steps over so many places.
+    /// A step over this many places.
     pub(crate) fn new(alloc: Global, places: usize) -> Result<Step, AllocError> {
         Ok(Step {
             changes: Vec::with_capacity(alloc, places)?,
         })
     }
 
-    /// Lists what the step from the old values to the new ones changes. A unit of value adds `weight` to a load.
+    /// Lists the changes of the step from the old values to the new ones. A unit of value adds `weight` to a load.
     pub(crate) fn list(
         &mut self,
         old: &[u32],
@@ -79,8 +79,8 @@ impl Step {
         }
     }
 
-    /// The greatest number of parts up to which the step betters the duals, where the commodity's own price changes
-    /// by so much in a whole step.
+    /// The step size: the greatest number of parts up to which the objective rises. `change` is the change of the
+    /// commodity's own price in a whole step.
     pub(crate) fn parts(&self, change: i64) -> u32 {
         if self.slope(change, PARTS) >= 0 {
             return PARTS;
@@ -94,7 +94,7 @@ impl Step {
         parts
     }
 
-    /// What the next part of the step gains, after so many parts of it.
+    /// The gain of the next part of the step, after `part` parts of it.
     fn slope(&self, change: i64, part: u32) -> i64 {
         let mut slope = change.wrapping_mul(FULL_PRICE);
         for change in &self.changes {
@@ -103,8 +103,8 @@ impl Step {
         slope
     }
 
-    /// Takes so many parts of the step: the values of these places in the row of a commodity, loads and prices follow. It tells
-    /// whether other prices count then.
+    /// Makes this many parts of the step, and updates the values of these places, loads and penalties. Returns whether
+    /// other places than before have a penalty that counts.
     pub(crate) fn take(
         &self,
         parts: u32,
@@ -133,19 +133,19 @@ impl Step {
     }
 }
 
-/// The old number and so many 64ths of the way to the new one, rounded down.
+/// `parts` 64ths of the way from the old number to the new one, rounded down.
 pub(crate) fn mixed_down(old: u32, new: u32, parts: u32) -> u32 {
     let sum = weighed_sum(old, new, parts) / PARTS as u64;
     sum.min(u32::MAX as u64) as u32
 }
 
-/// The old number and so many 64ths of the way to the new one, rounded up.
+/// `parts` 64ths of the way from the old number to the new one, rounded up.
 fn mixed_up(old: u32, new: u32, parts: u32) -> u32 {
     let sum = weighed_sum(old, new, parts).div_ceil(PARTS as u64);
     sum.min(u32::MAX as u64) as u32
 }
 
-/// So many times the new number, and the old one for the parts that are left.
+/// The sum of 64 numbers: `parts` times the new one, else the old one.
 fn weighed_sum(old: u32, new: u32, parts: u32) -> u64 {
     let left = PARTS.saturating_sub(parts) as u64;
     left.wrapping_mul(old as u64)

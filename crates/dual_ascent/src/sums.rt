@@ -6,17 +6,17 @@ use dual_flow::FULL_PRICE;
 use search_advice::Side;
 use std::alloc::{AllocError, Global};
 
-/// The sum of the prices, and by place the sum of the values, each weighed by the flows.
+/// The sum of the prices, and for each place its load: the sum of its values. Both are weighted by the flows.
 #[derive(Drop)]
 pub struct Sums {
     /// The sum of the prices.
     pub total: i64,
-    /// The sums of the values, by place.
+    /// The load of each place.
     pub loads: Vec<i64>,
 }
 
 impl Sums {
-    /// Sums of nothing, for so many places.
+    /// Zero sums, for this many places.
     pub fn new(alloc: Global, places: usize) -> Result<Sums, AllocError> {
         Ok(Sums {
             total: 0,
@@ -24,7 +24,7 @@ impl Sums {
         })
     }
 
-    /// The same sums.
+    /// A copy.
     pub fn copied(&self, alloc: Global) -> Result<Sums, AllocError> {
         Ok(Sums {
             total: self.total,
@@ -32,13 +32,13 @@ impl Sums {
         })
     }
 
-    /// Takes over other sums, as far as the lists go.
+    /// Sets these to the other sums, as far as both vectors go.
     pub fn take(&mut self, other: &Sums) {
         self.total = other.total;
         copy(&other.loads, &mut self.loads);
     }
 
-    /// Adds other sums, as far as the lists go.
+    /// Adds the other sums, as far as both vectors go.
     pub fn add(&mut self, other: &Sums) {
         self.total = self.total.wrapping_add(other.total);
         add(&other.loads, &mut self.loads);
@@ -50,14 +50,14 @@ impl Sums {
         add_weighed(flow, values, &mut self.loads);
     }
 
-    /// Forgets all commodities.
+    /// Sets all sums to 0.
     pub fn clear(&mut self) {
         self.total = 0;
         fill(&mut self.loads, 0);
     }
 
-    /// What passes raise at these terms: the price of all commodities less what their loads cost, with what the ramps leave
-    /// for a rise. It is weighed by the flows.
+    /// The objective that passes increase: total of the prices less the cost of the loads by their ramps, weighted by
+    /// the flows.
     pub(crate) fn objective(&self, terms: Terms<'_>) -> i128 {
         let extra = terms.extra_at(&self.loads);
         let hubs = terms.hubs.unwrap_or(0) as i128;
@@ -71,10 +71,10 @@ impl Sums {
         sum / FULL_PRICE as i128
     }
 
-    /// The bound of a branch with these sides by the cut of these sums, in 10^-12.
+    /// The bound of a branch with these sides by the Benders cut of these sums, in 10^-12.
     ///
-    /// Where any number of hubs will do and none is inside, some hub is open, which could raise the bound by the least that a free place
-    /// costs beyond its load: that needs a number with each cut, which cuts do not have.
+    /// Without `--hubs` some hub must be open, which could raise the bound where no hub is inside. A cut has no
+    /// constant for that, so it is not used.
     pub fn bound(&self, lengths: &Lengths, sides: &[Side]) -> i128 {
         match lengths.wanted {
             None => self.free_bound(lengths, sides),
@@ -82,7 +82,7 @@ impl Sums {
         }
     }
 
-    /// The bound where any number of hubs will do.
+    /// The bound without `--hubs`.
     fn free_bound(&self, lengths: &Lengths, sides: &[Side]) -> i128 {
         let mut bound = (self.total as i128).wrapping_mul(lengths.worth());
         for (k, side) in sides.iter().enumerate() {
@@ -97,8 +97,7 @@ impl Sums {
         bound
     }
 
-    /// The bound where so many hubs are wanted: besides those inside, the free places count whose cost beyond the load is
-    /// least.
+    /// The bound for exactly `hubs` hubs: those inside, and of the free places those with the least reduced cost.
     fn exact_bound(&self, lengths: &Lengths, sides: &[Side], hubs: usize) -> i128 {
         let mut bound = (self.total as i128).wrapping_mul(lengths.worth());
         let mut left = hubs;
@@ -119,7 +118,7 @@ impl Sums {
         bound
     }
 
-    /// What a hub at the place costs beyond the load.
+    /// The reduced cost of opening the place, in 10^-12: its fixed cost less its load.
     fn rest(&self, lengths: &Lengths, place: usize) -> Rest {
         let load = (at(&self.loads, place) as i128).wrapping_mul(lengths.worth());
         Rest {
@@ -128,7 +127,7 @@ impl Sums {
         }
     }
 
-    /// Of the free places the one that costs least after the last one, if any does.
+    /// The free place with the least reduced cost after the last one, if there is one.
     fn next_rest(&self, lengths: &Lengths, sides: &[Side], last: Option<Rest>) -> Option<Rest> {
         let mut found: Option<Rest> = None;
         for (k, side) in sides.iter().enumerate() {
@@ -149,7 +148,7 @@ impl Sums {
     }
 }
 
-/// What a hub at a place costs beyond the load, in 10^-12.
+/// The reduced cost of a place, in 10^-12.
 #[derive(Clone, Copy, PartialEq, Eq, PartialOrd, Ord)]
 struct Rest {
     cost: i128,

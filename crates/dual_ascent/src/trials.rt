@@ -1,4 +1,4 @@
-//! A pass that is taken back: what it brings tells whether its terms are good to branch on.
+//! A pass that is undone: its rise is the score of a candidate in strong branching.
 
 ghost use Rattle.dual_ascent.specs.Shapes.{KeepsShape};
 
@@ -12,7 +12,8 @@ use ascent_lengths::{Lengths, PlaceValues, Workers, at, row};
 use std::alloc::{AllocError, Global};
 use std::thread::Threads;
 
-/// What a trial may change, as it was before: all prices and waits, the sums, and by listed commodity the values of the core's places.
+/// What a trial may change, as it was before: all prices and back-offs, the sums, and the values of the listed
+/// commodities at the core's places.
 #[derive(Drop)]
 pub struct Trial {
     quotes: Vec<Quote>,
@@ -21,7 +22,7 @@ pub struct Trial {
 }
 
 impl Trial {
-    /// What trials may change that turn to these commodities alone.
+    /// A copy of what trials over these commodities may change.
     pub fn new(
         alloc: Global,
         state: &State,
@@ -42,7 +43,7 @@ impl Trial {
         })
     }
 
-    /// Puts all back as it was.
+    /// Restores everything.
     fn take_back(&self, core: &Core, listed: &[usize], state: &mut State)
         ensures { KeepsShape state.old state.new }
     {
@@ -55,8 +56,8 @@ impl Trial {
         }
     }
 
-    /// What a pass at these terms raises, over the listed commodities that could gain where the place is opened, or closed. The
-    /// duals are as before then.
+    /// The rise of the objective by a pass at these terms, over the listed commodities that could gain where the place
+    /// changes sides. Afterwards the duals are as before.
     pub fn rise<R: Threads + Sync>(
         &self,
         workers: &Workers<'_, R>,
@@ -82,13 +83,13 @@ impl Trial {
     }
 }
 
-/// What a trial is made with: room for the values of a commodity, and the place that is opened or closed.
+/// The input of a trial: a buffer for the values of a commodity, and the place that changes sides.
 #[derive(Drop)]
 pub struct Tried<'a> {
-    /// Room for the values of a commodity.
+    /// A buffer for the values of a commodity.
     pub found: &'a mut PlaceValues,
-    /// The commodities that it turns to, as those of the trial.
+    /// The commodities that take part, those of the trial.
     pub listed: &'a [usize],
-    /// The place that is opened or closed.
+    /// The place that changes sides.
     pub turned: Turned,
 }

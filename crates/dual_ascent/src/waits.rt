@@ -1,38 +1,38 @@
-//! Commodities that wait: passes leave out those whose last turn promised little.
+//! Back-off: passes leave out commodities whose last step gained little.
 
-/// No commodity waits for more passes.
+/// The greatest number of passes that a commodity is left out of.
 const MOST_PASSES: u8 = 7;
 
-/// How many passes more leave a commodity out, and how many did when it last waited.
+/// How many further passes leave a commodity out, and how many did last time.
 #[derive(Clone, Copy)]
 pub struct Wait {
     left: u8,
     last: u8,
 }
 
-/// A wait that is over, and none was before.
+/// No back-off, and none before.
 pub const NO_WAIT: Wait = Wait { left: 0, last: 0 };
 
-/// A wait that goes on.
+/// A back-off that outlasts any trial.
 pub const LONG_WAIT: Wait = Wait {
     left: u8::MAX,
     last: 0,
 };
 
 impl Wait {
-    /// Tells whether the next pass leaves the commodity out.
+    /// Returns whether the next pass leaves the commodity out.
     pub fn goes_on(self) -> bool {
         self.left > 0
     }
 
-    /// Lets a pass go by, and tells whether it leaves the commodity out.
+    /// Counts a pass, and returns whether it leaves the commodity out.
     pub fn leaves_out(&mut self) -> bool {
         let waits = self.left > 0;
         self.left = self.left.saturating_sub(1);
         waits
     }
 
-    /// Follows a turn of the commodity: where it promised little, a wait begins, about twice as long as the last.
+    /// Records a step of the commodity. After one that gained little it is left out, about twice as long as last time.
     pub fn follow(&mut self, is_little: bool) {
         if !is_little {
             *self = NO_WAIT;
@@ -43,27 +43,27 @@ impl Wait {
         self.left = self.last;
     }
 
-    /// Breaks the wait off; the next is about twice as long.
+    /// Ends the back-off; the next one is about twice as long.
     pub fn break_off(&mut self) {
         self.left = 0;
     }
 }
 
-/// The price of a commodity, and how long it waits.
+/// The price of a commodity, and its back-off.
 #[derive(Clone, Copy)]
 pub struct Quote {
     pub price: u32,
     pub wait: Wait,
 }
 
-/// A quote to fill lists with.
+/// A quote to fill vectors with.
 pub const NO_QUOTE: Quote = Quote {
     price: 0,
     wait: NO_WAIT,
 };
 
-/// What turns of commodities brought: what the prices gained, weighed by the flows; what the turns promised before
-/// their steps, weighed too, in parts of the full price; and how many turns there were.
+/// The result of steps of commodities: the gain of the prices, weighted by the flows; the gain that a whole step of
+/// each promised, weighted too, in parts of full; and the number of steps.
 #[derive(Clone, Copy)]
 pub struct Gain {
     pub prices: i64,
@@ -71,7 +71,7 @@ pub struct Gain {
     pub turns: u64,
 }
 
-/// No turns.
+/// No steps.
 pub const NO_GAIN: Gain = Gain {
     prices: 0,
     promised: 0,
@@ -79,7 +79,7 @@ pub const NO_GAIN: Gain = Gain {
 };
 
 impl Gain {
-    /// Adds what other turns brought.
+    /// Adds the result of other steps.
     pub fn add(&mut self, other: Gain) {
         self.prices = self.prices.wrapping_add(other.prices);
         self.promised = self.promised.wrapping_add(other.promised);
