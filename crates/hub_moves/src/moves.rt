@@ -1,5 +1,4 @@
-//! A local search over hub sets: a hub is opened, closed, or put in another's stead, as long as that costs less. Where a
-//! number of hubs is wanted, it is only put in another's stead.
+//! Local search over hub sets: opens, closes or swaps hubs while that costs less. For exactly p hubs it only swaps.
 
 use crate::openings::{Move, OpenSet, Opening, Openings};
 use crate::routes::{NO_ROUTE, Route, SetRoutes};
@@ -7,13 +6,13 @@ use ascent_lengths::{FAR, Lengths, Workers, at, copy, fill, put, row, row_mut};
 use std::alloc::{AllocError, Global};
 use std::thread::Threads;
 
-/// No search goes round more often.
+/// The greatest number of rounds of a search.
 const MOST_ROUNDS: usize = 100;
 
-/// Where hubs may move: who works, the instance, and the places that may be opened or closed.
+/// The input of a local search: workers, instance, and the places that may be opened or closed.
 #[derive(Drop)]
 pub struct Ground<'a, R> {
-    /// Who works.
+    /// The workers.
     pub workers: &'a Workers<'a, R>,
     /// The instance.
     pub lengths: &'a Lengths,
@@ -21,8 +20,8 @@ pub struct Ground<'a, R> {
     pub movable: &'a [bool],
 }
 
-/// What a local search works with: the set, its routes, the lengths when one of its hubs is closed, and what a place is opened
-/// in.
+/// A local search with its workspace: the set, its routes, the lengths after one of its hubs is closed, and the
+/// workspace of a candidate.
 #[derive(Drop)]
 pub struct LocalSearch {
     set: OpenSet,
@@ -31,7 +30,7 @@ pub struct LocalSearch {
 }
 
 impl LocalSearch {
-    /// What searches over so many nodes and places need.
+    /// A local search for this many nodes and places.
     pub fn new(alloc: Global, size: usize, places: usize) -> Result<LocalSearch, AllocError> {
         let cells = size.wrapping_mul(size);
         Ok(LocalSearch {
@@ -50,7 +49,7 @@ impl LocalSearch {
         &self.set.marks
     }
 
-    /// What the set costs, in 10^-12. An empty set costs too much.
+    /// The cost of the set, in 10^-12. An empty set costs `i128::MAX`.
     pub fn cost(&mut self, lengths: &Lengths, marks: &[bool]) -> i128 {
         copy(marks, &mut self.set.marks);
         self.set_routes(lengths);
@@ -58,7 +57,7 @@ impl LocalSearch {
         self.cost_of_base(lengths, None)
     }
 
-    /// Betters the set by moves among the movable places, and gives what it then costs, in 10^-12.
+    /// Improves the set by moves of the movable places, and returns its cost, in 10^-12.
     pub fn improve<R: Threads + Sync>(&mut self, ground: &Ground<'_, R>, marks: &[bool]) -> i128 {
         let lengths = ground.lengths;
         let mut cost = self.cost(lengths, marks);
@@ -79,8 +78,8 @@ impl LocalSearch {
         cost
     }
 
-    /// Marks in place of the set what is found by opening one movable place after another, each of them the cheapest to open
-    /// then: as many as are wanted, or, where any number will do, as long as that costs less, and unless the set is cheaper.
+    /// Greedy start: replaces the marks by hubs that are opened one by one, each the cheapest to open then. For exactly
+    /// p hubs it opens p of them. Else it goes on while the cost falls, and keeps the marked set if that is cheaper.
     pub fn begin<R: Threads + Sync>(&mut self, ground: &Ground<'_, R>, marks: &mut [bool]) {
         let lengths = ground.lengths;
         let least = self.cost(lengths, marks);
@@ -98,8 +97,8 @@ impl LocalSearch {
         copy(&self.set.marks, marks);
     }
 
-    /// What one hub is worth about the set that was found last, which costs so much: half of what the cost rises by at least with a
-    /// hub less and falls by at most with one more, or one of the two where the other cannot be. It is in 10^-12.
+    /// The worth of one hub at the set that was found last, of this cost: the mean of the least rise with one hub less
+    /// and the greatest fall with one more, or one of the two where the other is impossible. In 10^-12.
     pub fn hub_worth<R: Threads + Sync>(&mut self, ground: &Ground<'_, R>, cost: i128) -> i128 {
         let lengths = ground.lengths;
         let mut least = i128::MAX;
@@ -120,7 +119,7 @@ impl LocalSearch {
         }
     }
 
-    /// By how much one hub more lowers the cost of routes over the set that was found last at most, in 10^-12.
+    /// The greatest fall of the routing cost by one hub more than the set that was found last, in 10^-12.
     pub fn most_saved(&mut self, lengths: &Lengths) -> i128 {
         self.close(lengths, None);
         let routes = self.set.routes_cost(lengths);
@@ -140,8 +139,8 @@ impl LocalSearch {
         most
     }
 
-    /// Sets each cap to the greatest length that a commodity has when a hub of the set that was found last is left out, or to the most
-    /// that a price may be.
+    /// Sets the cap of each commodity's price to the greater of its lengths without the first and without the last hub
+    /// of its route over the set that was found last, but at most to the greatest price.
     pub fn set_caps(&self, lengths: &Lengths, caps: &mut [u32]) {
         for i in 0..lengths.size {
             for (j, cap) in row_mut(caps, i, lengths.size).iter_mut().enumerate() {
@@ -152,7 +151,7 @@ impl LocalSearch {
         }
     }
 
-    /// Opens hubs as long as the set then costs less, and gives what it costs.
+    /// Opens hubs while the cost falls, and returns the cost.
     fn open_all<R: Threads + Sync>(&mut self, ground: &Ground<'_, R>, cost: i128) -> i128 {
         let mut cost = cost;
         for _ in 0..ground.lengths.places {
@@ -165,7 +164,7 @@ impl LocalSearch {
         cost
     }
 
-    /// Makes the best move that closes this hub, or none, if the set then costs less, and gives what it costs.
+    /// Makes the best move that closes this hub, or none, if the cost falls, and returns the cost.
     fn turn<R: Threads + Sync>(
         &mut self,
         ground: &Ground<'_, R>,
@@ -187,7 +186,7 @@ impl LocalSearch {
         found.cost
     }
 
-    /// The best move that closes this hub, or none, where the set costs so much.
+    /// The best move that closes this hub, or none, for a set of this cost.
     fn best_move<R: Threads + Sync>(
         &mut self,
         ground: &Ground<'_, R>,
@@ -210,7 +209,7 @@ impl LocalSearch {
         openings.best(ground.workers, &mut self.opening, best)
     }
 
-    /// Finds the shortest routes over the set.
+    /// Computes the shortest routes over the set.
     fn set_routes(&mut self, lengths: &Lengths) {
         self.set.routes.take(&lengths.tables, &self.set.marks);
         for i in 0..lengths.size {
@@ -247,7 +246,7 @@ impl LocalSearch {
         }
     }
 
-    /// What the set costs without this hub, in 10^-12; far too much if no hub is left.
+    /// The cost of the set without this hub, in 10^-12; `i128::MAX` if no hub is left.
     fn cost_of_base(&self, lengths: &Lengths, closed: Option<usize>) -> i128 {
         let mut hubs = self.set.routes.hubs().len();
         if closed.is_some() {

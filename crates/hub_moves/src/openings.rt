@@ -1,4 +1,4 @@
-//! What a hub set costs with one place more. Places are tried by workers, some at a time.
+//! The cost of a hub set with one more hub. Workers try the candidates in blocks.
 
 use crate::routes::SetRoutes;
 use ascent_lengths::{
@@ -10,20 +10,20 @@ use hub_io::OpenGate;
 use std::alloc::{AllocError, Global};
 use std::thread::Threads;
 
-/// So many places one worker tries at a time.
+/// The number of places in a block.
 const PLACES_AT_ONCE: usize = 16;
 
-/// Below so many nodes one worker tries all: more would not make up for their start.
+/// Below this many nodes one worker tries all places: starting more costs more than they save.
 const LEAST_NODES: usize = 100;
 
-/// A move that was found: the place to open, if one is, and what the set then costs, in 10^-12.
+/// A move: the place to open, if any, and the cost of the set after it, in 10^-12.
 #[derive(Clone, Copy)]
 pub(crate) struct Move {
     pub(crate) open: Option<usize>,
     pub(crate) cost: i128,
 }
 
-/// A hub set by its marks, its routes, and the lengths of all commodities over it, or over what one hub less leaves of it.
+/// A hub set as marks, its routes, and the length of each commodity's route over it, or over the set without one hub.
 #[derive(Drop)]
 pub(crate) struct OpenSet {
     pub(crate) marks: Vec<bool>,
@@ -32,8 +32,8 @@ pub(crate) struct OpenSet {
 }
 
 impl OpenSet {
-    /// What routes of these lengths cost, in 10^-12. Each commodity that has none counts as costing more than any set that has
-    /// all.
+    /// The routing cost of these lengths, in 10^-12. A commodity without an allowed route adds more than any feasible
+    /// set costs.
     pub(crate) fn routes_cost(&self, lengths: &Lengths) -> i128 {
         let mut sum = 0u64;
         let mut lacked = 0u64;
@@ -48,7 +48,7 @@ impl OpenSet {
     }
 }
 
-/// What so much flow times length costs, and so many commodities that have no route.
+/// The cost of this sum of flow times length, and of this many commodities without a route.
 fn cost_of(lengths: &Lengths, sum: u64, lacked: u64) -> i128 {
     let lacking = (lacked as i128).wrapping_mul(lengths.lack_cost);
     (sum as i128)
@@ -56,7 +56,7 @@ fn cost_of(lengths: &Lengths, sum: u64, lacked: u64) -> i128 {
         .wrapping_add(lacking)
 }
 
-/// How many of the commodities with these flows and lengths have flow and no route.
+/// The number of commodities that have flow and no route.
 fn lacking(flows: &[u32], base: &[u32]) -> u64 {
     let mut count = 0u64;
     for (flow, length) in flows.iter().zip(base) {
@@ -67,8 +67,8 @@ fn lacking(flows: &[u32], base: &[u32]) -> u64 {
     count
 }
 
-/// What a place is opened in: the trunk legs between it and the hubs, and the lengths from it to each destination, by hubs or
-/// alone.
+/// The workspace of one candidate: the trunk legs between it and the hubs, and the lengths from it to each destination,
+/// by hubs or directly.
 #[derive(Drop)]
 pub(crate) struct Opening {
     to_hubs: Vec<u32>,
@@ -78,7 +78,7 @@ pub(crate) struct Opening {
 }
 
 impl Opening {
-    /// What places of an instance with so many nodes and places are opened in.
+    /// A workspace for this many nodes and places.
     pub(crate) fn new(alloc: Global, size: usize, places: usize) -> Result<Opening, AllocError> {
         let width = places.div_ceil(8).wrapping_mul(8);
         Ok(Opening {
@@ -89,7 +89,8 @@ impl Opening {
         })
     }
 
-    /// Sets, by destination, the shortest ways onward from the place, by a hub but the closed one or by none.
+    /// Sets, for each destination, the shortest way onward from the place, by a hub other than the closed one or
+    /// directly.
     fn set_ways(&mut self, openings: &Openings<'_, '_>, k: usize) {
         let (tables, routes) = (&openings.lengths.tables, &openings.set.routes);
         fill(&mut self.to_hubs, FAR);
@@ -114,7 +115,7 @@ impl Opening {
         }
     }
 
-    /// What the routes cost where the place is opened, in 10^-12.
+    /// The routing cost with the place opened, in 10^-12.
     pub(crate) fn routes_cost(&mut self, openings: &Openings<'_, '_>, k: usize) -> i128 {
         self.set_ways(openings, k);
         let lengths = openings.lengths;
@@ -147,8 +148,8 @@ impl Opening {
     }
 }
 
-/// Places that may be opened beside a hub set without this hub, whose hubs cost so much, in 10^-12: those that are movable and
-/// not marked. A block is some places in a row.
+/// The openings of a hub set without the closed hub: the movable places that are not hubs. `fixed` is the fixed cost of
+/// the remaining hubs, in 10^-12. A block is some consecutive places.
 #[derive(Clone, Copy)]
 pub(crate) struct Openings<'a, 'b> {
     pub(crate) lengths: &'a Lengths,
@@ -159,7 +160,7 @@ pub(crate) struct Openings<'a, 'b> {
 }
 
 impl<'a, 'b> Openings<'a, 'b> {
-    /// The best of these moves and the openings, the first of equal ones, found by so many workers.
+    /// The best of the given move and all openings, the first of equal ones, by several workers.
     pub(crate) fn best<R: Threads + Sync>(
         &self,
         workers: &Workers<'_, R>,
@@ -193,7 +194,7 @@ impl<'a, 'b> Openings<'a, 'b> {
         best
     }
 
-    /// The best of this move and the openings of a block, the first of equal ones.
+    /// The best of the given move and the openings of a block, the first of equal ones.
     fn best_of(&self, opening: &mut Opening, block: u32, best: Move) -> Move {
         let lengths = self.lengths;
         let first = (block as usize).wrapping_mul(PLACES_AT_ONCE);
@@ -214,8 +215,8 @@ impl<'a, 'b> Openings<'a, 'b> {
         best
     }
 
-    /// The length of the shortest allowed route of a commodity by the place, alone or with a hub but the closed one, if it is
-    /// shorter than `now`, or else that. No route by the place is shorter than `least`.
+    /// The lesser of `now` and the length of the shortest allowed route of a commodity over the place, alone or with a
+    /// hub other than the closed one. No route over the place is shorter than `least`.
     fn length_with(&self, i: usize, j: usize, k: usize, least: u32, now: u32) -> u32 {
         let legs = Commodity::of(&self.lengths.tables, i, j);
         if legs.is_safe(least.wrapping_add(1)) {

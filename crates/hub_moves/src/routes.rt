@@ -3,7 +3,7 @@
 use ascent_lengths::{Commodity, FAR, Table, Tables, at, fill, gather, row, row_mut, short};
 use std::alloc::{AllocError, Global};
 
-/// A shortest route: its first and its last hub, by place, and its length.
+/// A shortest route: its first and last hub, as places, and its length.
 #[derive(Clone, Copy)]
 pub struct Route {
     /// The first hub.
@@ -15,21 +15,21 @@ pub struct Route {
 }
 
 impl Route {
-    /// Tells whether the route goes by the place.
+    /// Returns whether the place is a hub of the route.
     pub(crate) fn uses(&self, k: usize) -> bool {
         self.first == k || self.last == k
     }
 }
 
-/// A route to fill lists with.
+/// A route to fill vectors with.
 pub(crate) const NO_ROUTE: Route = Route {
     first: usize::MAX,
     last: usize::MAX,
     length: FAR,
 };
 
-/// The shortest route of a commodity, and the lengths of the shortest without its first hub, without its last and without
-/// both.
+/// The shortest route of a commodity, and the lengths of the shortest ones without its first hub, without its last hub,
+/// and without both.
 #[derive(Clone, Copy)]
 pub struct Detours {
     /// The shortest route.
@@ -42,20 +42,20 @@ pub struct Detours {
     pub neither: u32,
 }
 
-/// A way from a hub by a last hub, which is told by place, to a destination.
+/// The end of a route: from a hub by a last hub, a place, to a destination.
 #[derive(Clone, Copy)]
 struct Hop {
     last: u32,
     length: u32,
 }
 
-/// A hop to fill lists with.
+/// A hop to fill vectors with.
 const NO_HOP: Hop = Hop {
     last: u32::MAX,
     length: FAR,
 };
 
-/// The three shortest hops by different last hubs.
+/// The three shortest hops with different last hubs.
 #[derive(Clone, Copy)]
 struct Hops {
     first: Hop,
@@ -63,7 +63,7 @@ struct Hops {
     third: Hop,
 }
 
-/// Hops to fill lists with.
+/// Hops to fill vectors with.
 const NO_HOPS: Hops = Hops {
     first: NO_HOP,
     second: NO_HOP,
@@ -71,7 +71,7 @@ const NO_HOPS: Hops = Hops {
 };
 
 impl Hops {
-    /// The hops with one more to choose from.
+    /// The hops with one more candidate.
     fn with(self, hop: Hop) -> Hops {
         let mut hops = self;
         if hop.length < hops.third.length {
@@ -86,7 +86,7 @@ impl Hops {
         hops
     }
 
-    /// The length of the shortest hop by neither place.
+    /// The length of the shortest hop that avoids both places.
     fn without(&self, some: u32, other: u32) -> u32 {
         if self.first.last != some && self.first.last != other {
             self.first.length
@@ -98,7 +98,7 @@ impl Hops {
     }
 }
 
-/// The legs over the hubs of a set, in rows by origin or destination, and the shortest hops from each hub.
+/// The legs over the hubs of a set, by origin and by destination, and the shortest hops from each hub.
 #[derive(Drop)]
 pub struct SetRoutes {
     hubs: Vec<usize>,
@@ -108,7 +108,7 @@ pub struct SetRoutes {
 }
 
 impl SetRoutes {
-    /// Routes with room for so many nodes and hubs, as yet of no hubs.
+    /// Empty routes, with room for this many nodes and hubs.
     pub fn new(alloc: Global, size: usize, hubs: usize) -> Result<SetRoutes, AllocError> {
         Ok(SetRoutes {
             hubs: Vec::with_capacity(alloc, hubs)?,
@@ -118,12 +118,12 @@ impl SetRoutes {
         })
     }
 
-    /// The hubs, by place.
+    /// The hubs, as places.
     pub fn hubs(&self) -> &[usize] {
         &self.hubs
     }
 
-    /// Makes these the routes over the marked places.
+    /// Computes the routes over the marked places.
     pub fn take(&mut self, tables: &Tables, marks: &[bool]) {
         self.hubs.clear();
         for (k, mark) in marks.iter().enumerate() {
@@ -149,7 +149,7 @@ impl SetRoutes {
         }
     }
 
-    /// Finds the shortest hops to the destination.
+    /// Computes the shortest hops to the destination.
     fn take_hops(&mut self, tables: &Tables, j: usize) {
         let deliver = tables.legs.deliver.row(j);
         for (hops, k) in row_mut(&mut self.hops, j, self.hubs.len())
@@ -167,7 +167,7 @@ impl SetRoutes {
         }
     }
 
-    /// The shortest route, the first in the order of the first hubs.
+    /// The shortest route; ties by the order of the first hubs.
     pub fn shortest(&self, tables: &Tables, i: usize, j: usize) -> Route {
         let collect = self.collect.row(i);
         let hops = row(&self.hops, j, self.hubs.len());
@@ -192,7 +192,7 @@ impl SetRoutes {
         self.shortest_allowed(&legs, j, &[])
     }
 
-    /// The length of the shortest route by neither place.
+    /// The length of the shortest route that avoids both places.
     pub(crate) fn without(&self, tables: &Tables, i: usize, j: usize, left_out: [usize; 2]) -> u32 {
         let collect = self.collect.row(i);
         let hops = row(&self.hops, j, self.hubs.len());
@@ -213,7 +213,7 @@ impl SetRoutes {
         self.shortest_allowed(&legs, j, &left_out).length
     }
 
-    /// The shortest route and those without its hubs.
+    /// The shortest route, and the lengths without its hubs.
     pub fn detours(&self, tables: &Tables, i: usize, j: usize) -> Detours {
         let route = self.shortest(tables, i, j);
         let (k, m) = (route.first, route.last);
@@ -234,7 +234,7 @@ impl SetRoutes {
         }
     }
 
-    /// The shortest route that is allowed and goes by none of these places, or none.
+    /// The shortest allowed route that avoids these places, or none.
     fn shortest_allowed(&self, legs: &Commodity<'_>, j: usize, left_out: &[usize]) -> Route {
         let hops = row(&self.hops, j, self.hubs.len());
         let mut found = NO_ROUTE;
