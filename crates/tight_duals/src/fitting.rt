@@ -1,4 +1,4 @@
-//! The duals of all commodities fitted by workers.
+//! The duals of all commodities in closed form, by several workers.
 
 ghost use Rattle.std.specs.Prelude.{◌≤◌};
 ghost use Rattle.dual_ascent.specs.Shapes.{KeepsShape};
@@ -13,42 +13,45 @@ use search_advice::Side;
 use std::alloc::{AllocError, Global};
 use std::thread::Threads;
 
-/// So many origins there are for each worker at a time.
+/// The number of origins for each worker in a batch.
 const ORIGINS_AT_ONCE: usize = 4;
 
-/// How duals are fitted.
+/// How duals are computed.
 #[derive(Clone, Copy, PartialEq, Eq)]
 pub enum Manner {
-    /// Those that are not tight at the set yet are made so, and the places of the core alone are asked; just the bound is told, about.
+    /// Makes those duals tight at the set that are not, over the core alone. Returns an estimate of the bound; the
+    /// duals stay as they are.
     Guess,
-    /// All are made tight at the set, as near to those of now as can be; just the bound is told.
+    /// Makes all duals tight at the set, as close to the present ones as possible. Returns their bound; the duals stay
+    /// as they are.
     Bound,
-    /// The same, and they are kept.
+    /// The same, and stores the duals.
     Tight,
-    /// The places outside the core get the least values that are asked of them, and prices stay as they are.
+    /// Completes the duals: places outside the core get the least values that routes require. Prices stay, and the
+    /// duals are stored.
     Whole,
 }
 
 impl Manner {
-    /// Tells whether the duals are kept.
+    /// Returns whether the duals are stored.
     pub(crate) fn keeps(self) -> bool {
         self == Manner::Tight || self == Manner::Whole
     }
 }
 
-/// What duals are fitted by: the order in which places are asked, the places that are up to date, and the sides of the branch.
+/// The input of a fit: the order of the places, the core, and the sides of the branch.
 #[derive(Clone, Copy)]
 pub struct Scope<'a> {
-    /// The order of all places.
+    /// The order in which places get their values.
     pub order: &'a [Turn],
-    /// The places whose values are up to date.
+    /// The core: the places whose values are up to date.
     pub core: &'a [usize],
-    /// The sides by place.
+    /// The side of each place in the branch.
     pub sides: &'a [Side],
 }
 
-/// What duals are fitted to: the hub set and its routes, the places that are out of date, and those that are asked, in order; with the sums that
-/// come out.
+/// The workspace of a fit: the hub set with its routes, the places that are out of date, those that get values, in
+/// order, and the sums of the result.
 #[derive(Drop)]
 pub struct Fitting {
     marks: Vec<bool>,
@@ -60,7 +63,7 @@ pub struct Fitting {
 }
 
 impl Fitting {
-    /// What it takes for so many places.
+    /// A workspace for this many places.
     pub fn new(alloc: Global, places: usize) -> Result<Fitting, AllocError> {
         Ok(Fitting {
             marks: vec![in alloc; false; places]?,
@@ -72,7 +75,7 @@ impl Fitting {
         })
     }
 
-    /// Makes the marked places the set. It takes memory only for the routes over more hubs than any set before had.
+    /// Sets the hub set. Takes memory only where the set has more hubs than any before.
     pub fn take(
         &mut self,
         alloc: Global,
@@ -92,8 +95,8 @@ impl Fitting {
         Ok(())
     }
 
-    /// Lists the places outside the core as stale, and those that are asked, in the order of the scope; and begins with the sums of now
-    /// where just some duals are fitted.
+    /// Lists the places that are out of date, and those that get values, in order. Sums start at 0, for a guess at the
+    /// present ones.
     fn begin(&mut self, state: &State, scope: Scope<'_>, manner: Manner) {
         self.stale.clear();
         self.asked.clear();
@@ -118,7 +121,7 @@ impl Fitting {
         }
     }
 
-    /// Fits the duals in this manner, and gives the bound of the branch by them.
+    /// Computes the duals in this manner, and returns the bound of the branch by them.
     pub fn fit<R: Threads + Sync>(
         &mut self,
         workers: &Workers<'_, R>,
@@ -146,7 +149,7 @@ impl Fitting {
         Ok(bound)
     }
 
-    /// The fitted duals of a batch of origins, from the first on.
+    /// The new duals of a batch of origins, from `first` on.
     fn fitted<'a, R: Threads + Sync>(
         &'a self,
         workers: &Workers<'_, R>,
@@ -176,7 +179,7 @@ impl Fitting {
     }
 }
 
-/// So many origins are fitted at a time.
+/// The number of origins in a batch.
 fn batch<R>(workers: &Workers<'_, R>) -> usize
     ensures { 1 ≤ result }
 {

@@ -1,4 +1,4 @@
-//! The fitted duals of an origin. Origins are a crew's work: the duals of each are found by themselves.
+//! The duals of an origin in closed form. The worker pool shares the origins.
 
 use crate::fitting::{Fitting, Manner};
 use crate::tight::{begin_tight, is_tight};
@@ -7,8 +7,8 @@ use claim_board::Job;
 use dual_ascent::{Quote, Sums};
 use std::alloc::{AllocError, Global};
 
-/// The fitted duals of an origin, its prices and values, and their sums; where just those that are not tight are fitted, by how much the sums
-/// change. Where they are not kept there are the sums alone.
+/// The new prices and values of an origin, and their sums; for a guess, the change of the sums. Only the sums are there
+/// where duals are not stored.
 #[derive(Drop)]
 pub(crate) struct Fitted {
     pub(crate) prices: Vec<u32>,
@@ -16,8 +16,8 @@ pub(crate) struct Fitted {
     pub(crate) sums: Sums,
 }
 
-/// Origins whose duals are to be fitted, with the duals of all commodities: block e is the origin at e after the first. The stale
-/// places ask nothing of others, and the asked ones get, in order, what is asked of them.
+/// The job of a batch: block e is origin `first + e`. Places that are out of date require nothing of others; the listed
+/// ones get, in order, the least values that are required.
 #[derive(Clone, Copy)]
 pub(crate) struct Origins<'a> {
     pub(crate) lengths: &'a Lengths,
@@ -29,7 +29,7 @@ pub(crate) struct Origins<'a> {
 }
 
 impl<'a> Origins<'a> {
-    /// No duals as yet: the values of the origin and prices of 0 where they are to be kept, and sums of nothing.
+    /// The start of an origin: its values and prices of 0 where duals are stored, and sums of 0.
     fn begin(&self, alloc: Global, values: &[u32]) -> Result<Fitted, AllocError> {
         let (prices, values) = if self.manner.keeps() {
             (vec![in alloc; 0; self.lengths.size]?, values.to_vec(alloc)?)
@@ -43,7 +43,7 @@ impl<'a> Origins<'a> {
         })
     }
 
-    /// Fits the dual of a commodity with this price and these values, and gives its price, unless it is to stay.
+    /// Computes the dual of a commodity with this price and these values, and returns its price; none if it stays.
     fn fit(
         &self,
         found: &mut PlaceValues,

@@ -1,4 +1,4 @@
-//! Duals that are best where just one hub is wanted.
+//! The best duals for `--hubs 1`, in closed form.
 
 ghost use Rattle.dual_ascent.specs.Shapes.{KeepsShape};
 
@@ -6,8 +6,9 @@ use ascent_lengths::{FAR, Lengths, at, fill, put, row, row_mut};
 use dual_ascent::{State, Sums};
 use std::alloc::{AllocError, Global};
 
-/// Makes the duals those at which each place's own route is tight: the value of a place is what the price is above the length by it
-/// alone, and the price is the least that no pair of hubs undercuts. Then the bound by one hub is what the best one costs.
+/// Sets the duals at which the route over each single place is tight: the value of a place is the price less the length
+/// of that route, and the price is the least at which every pair of hubs allows this. Then the bound for one hub is the
+/// cost of the best hub.
 pub fn fit_single(alloc: Global, lengths: &Lengths, state: &mut State) -> Result<(), AllocError>
     ensures { KeepsShape state.old state.new }
 {
@@ -31,7 +32,8 @@ pub fn fit_single(alloc: Global, lengths: &Lengths, state: &mut State) -> Result
     Ok(())
 }
 
-/// Sets, by place, the leg of collection, or by how much that of another place is above the trunk leg to it at most.
+/// Sets, for each place, the greatest of its collection leg and, over the other places, their collection leg less the
+/// trunk leg.
 fn set_turned(lengths: &Lengths, i: usize, turned: &mut [u32]) {
     let collect = lengths.tables.legs.collect.row(i);
     for (k, most) in turned.iter_mut().enumerate() {
@@ -45,7 +47,7 @@ fn set_turned(lengths: &Lengths, i: usize, turned: &mut [u32]) {
     }
 }
 
-/// Sets the values of a commodity, and gives its price.
+/// Sets the values of a commodity, and returns its price.
 fn fit_one(lengths: &Lengths, from: [usize; 2], turned: &[u32], values: &mut [u32]) -> u32 {
     let [i, j] = from;
     let (collect, deliver) = (

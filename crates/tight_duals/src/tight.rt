@@ -3,8 +3,8 @@
 use ascent_lengths::{Commodity, Lengths, PlaceValues, at};
 use hub_moves::{Route, SetRoutes};
 
-/// The shortest route of a commodity over a set, the price that is tight at it, and the values of the route's hubs; where
-/// these are one, it has the first.
+/// The shortest route of a commodity over a set, the price that is tight at it, and the values of the route's hubs.
+/// With one hub, only `first` counts.
 #[derive(Clone, Copy)]
 struct TightRoute {
     route: Route,
@@ -13,7 +13,7 @@ struct TightRoute {
     last: u32,
 }
 
-/// The tight route of a commodity where the values of the route's hubs are lowered to what the routes without them leave.
+/// The tight route of a commodity, where the values of its hubs are at most what the routes without them allow.
 fn tight_route(
     routes: &SetRoutes,
     lengths: &Lengths,
@@ -43,8 +43,8 @@ fn tight_route(
     }
 }
 
-/// Tells whether a commodity's dual is tight at the set: the values of its hubs come to what the price is above the
-/// shortest route.
+/// Returns whether a commodity's dual is tight at the set: its price is the length of the shortest route plus the
+/// values of the hubs.
 pub(crate) fn is_tight(
     routes: &SetRoutes,
     lengths: &Lengths,
@@ -64,8 +64,8 @@ pub(crate) fn is_tight(
         == price
 }
 
-/// Begins with the values of a commodity that are tight at the set and nearest to these, and gives its price. Places outside the set
-/// have their old ones.
+/// Sets the values that are tight at the set and closest to these, and returns the price. Places outside the set keep
+/// their values.
 pub(crate) fn begin_tight(
     routes: &SetRoutes,
     lengths: &Lengths,
