@@ -1,4 +1,4 @@
-//! The adviser of a search: it betters duals from node to node, and guesses at hub sets.
+//! The heuristic of a search: improves duals from node to node, and finds hub sets.
 
 ghost use Rattle.std.specs.Prelude.{◌≡◌, ◌<◌, ◌≤◌, length, IfOk, IfSome};
 ghost use denote.Param.Send.{IsSync};
@@ -19,14 +19,13 @@ use std::marker::Model;
 use std::thread::Threads;
 use tight_duals::Fitting;
 
-/// So many memories there are at most.
+/// The greatest number of stored states.
 const MOST_MEMORIES: usize = 8;
 
-/// Gives advice at the nodes of a search, one after another. It is seen as the shape of its instance.
+/// The heuristic of a search, node after node. Contracts see only the shape of its instance.
 ///
-/// Duals and prices go on from node to node, so that a child starts from its parent's; a memory leads back to those that
-/// were put aside at an earlier node. `aside` counts what was put aside and not gone back to; of it the first eight are kept, and the others
-/// forgotten.
+/// Duals and penalties go on from node to node, so that a child starts from its parent's. A stored state leads back to
+/// an earlier node. `aside` is the depth of such states; the first eight are stored, deeper ones are not.
 #[derive(Drop)]
 pub struct Adviser {
     pub(crate) workers: u32,
@@ -54,8 +53,8 @@ impl Model for Adviser {
 }
 
 impl Adviser {
-    /// An adviser for the instance, with all duals 0, whose passes so many workers make, at most 64. Its advice is the
-    /// same, whatever their number.
+    /// A heuristic for the instance, with all duals 0. At most 64 workers share its passes; the results are the same
+    /// for every number of workers.
     #[tactic(auto, using(dual_ascent::proofs::SmallShapes::few_places))]
     pub fn new(alloc: Global, instance: &Instance, workers: u32) -> Result<Adviser, AllocError>
         ensures { IfOk result (λ a. a ≡ shape_of instance.now) }
@@ -82,10 +81,10 @@ impl Adviser {
         })
     }
 
-    /// Begins with these values in place of 0, in the unit of `unit()`: a row for each commodity in order, a number for each
-    /// place. Past the end of the list they are 0.
+    /// Starts from these values in place of 0, in the unit of `unit()`: a row for each commodity in order, a number for
+    /// each place. Past the end of the list they are 0.
     ///
-    /// Prices and loads are worked out anew, and the passes are as ever. It is meant for a new adviser.
+    /// Penalties and loads are computed again. It is meant for a new heuristic.
     pub fn begin_with(&mut self, values: &[u32])
         ensures { KeepsShape self.old self.new }
     {
@@ -93,7 +92,7 @@ impl Adviser {
             .begin_with(&self.lengths, &mut self.found, values);
     }
 
-    /// Its workers.
+    /// The workers.
     pub(crate) fn workers<'a, R>(&self, rt: &'a R, alloc: Global) -> Workers<'a, R> {
         Workers {
             rt,
@@ -102,17 +101,17 @@ impl Adviser {
         }
     }
 
-    /// What gaps are measured by, where the bound is to come to this.
+    /// The scale of gaps, for this cutoff.
     pub(crate) fn scale(&self, wanted: i128) -> i128 {
         self.sets.scale(&self.lengths, wanted)
     }
 
-    /// The bound of the node by the cut of the values, about.
+    /// An estimate of the bound of the node by the Benders cut of the values.
     pub(crate) fn bound(&self) -> i128 {
         self.state.bound(&self.lengths, &self.node.sides)
     }
 
-    /// Makes one pass, and the duals whole where the bound seems to come to this.
+    /// Makes one pass, and completes the duals where the bound seems to reach the cutoff.
     fn pass<R: Threads + Sync>(
         &mut self,
         workers: &Workers<'_, R>,
@@ -166,7 +165,7 @@ impl Advice for Adviser {
             .mark_movable(&self.sets.start, &mut self.sets.movable);
     }
 
-    // The first pass at a node begins it.
+    // The first pass at a node starts it.
     fn better<R: Threads + Sync>(
         &mut self,
         rt: &R,

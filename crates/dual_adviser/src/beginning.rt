@@ -1,4 +1,4 @@
-//! What comes before the passes of a node, and before each of them.
+//! The start of a node, and what precedes each pass.
 
 ghost use Rattle.dual_ascent.specs.Shapes.{KeepsShape};
 
@@ -11,20 +11,20 @@ use std::alloc::AllocError;
 use std::thread::Threads;
 use tight_duals::{Manner, Scope, fit_single};
 
-/// In so many first passes at the root the start set sets caps and least prices.
+/// In this many first passes at the root the start set gives caps and least penalties.
 const EARLY_PASSES: usize = 3;
-/// So often the core is chosen anew at the root, in passes, after the first pass and after the first few.
+/// At the root the core is chosen again after this many passes, and after the first and the third.
 const ROOT_AGE: usize = 6;
-/// A core that has seen so many passes below the root is chosen anew.
+/// Below the root a core is chosen again after this many passes.
 const MOST_AGE: usize = 12;
-/// How far from a price a place of the core may be, in parts of the full price.
+/// How far from a penalty a place of the core may be, in parts of full.
 const REACH: i64 = FULL_PRICE * 3 / 10;
-/// A hub counts as worth no more than this: no more than all flows over the longest routes (`units`).
+/// An upper bound on the worth of a hub: all flows over the longest routes (`units`).
 const MOST_HUB_WORTH: i128 = 1 << 60;
 
-/// The root's ramps are wide while the gap is at least so many thousandths.
+/// The root's ramps are wide while the gap is at least this many thousandths.
 const WIDE_GAP: i128 = 20;
-/// Prices up to these parts of the full one count as none while the gap is at least so many thousandths; the smaller ones at the
+/// Penalties up to `COARSE` count as 0 while the gap is at least `COARSE_GAP` thousandths; the lesser pair is for the
 /// root alone.
 const COARSE_GAP: i128 = 10;
 
@@ -35,8 +35,8 @@ const LESS_COARSE_GAP: i128 = 1;
 const LESS_COARSE: i64 = FULL_PRICE / 128;
 
 impl Adviser {
-    /// Begins a node: a local search makes the first guess from its start set, unless it did before. At the root caps and ramps go by what that
-    /// finds. It tells whether that is enough to close the node.
+    /// Starts a node: a local search from its start set, unless that was tried before, gives the first hub set. At the
+    /// root caps and ramps follow from it. Returns whether the node is fathomed by that.
     pub(crate) fn begin<R: Threads + Sync>(
         &mut self,
         workers: &Workers<'_, R>,
@@ -64,7 +64,7 @@ impl Adviser {
         Ok(false)
     }
 
-    /// Begins where one hub is wanted with the duals that are best then, and tells whether the bound comes to this cost.
+    /// For `--hubs 1` starts from the best duals, and returns whether the bound reaches this cost.
     fn begin_single<R: Threads + Sync>(
         &mut self,
         workers: &Workers<'_, R>,
@@ -82,7 +82,7 @@ impl Adviser {
         Ok(false)
     }
 
-    /// Betters the start set, and gives what it then costs.
+    /// Improves the start set, and returns its cost.
     fn search_from_start<R: Threads + Sync>(&mut self, workers: &Workers<'_, R>) -> i128
         ensures { KeepsShape self.old self.new }
     {
@@ -97,7 +97,7 @@ impl Adviser {
         cost
     }
 
-    /// Begins the root with ramps and caps that go by the start set, which costs so much.
+    /// Starts the root with ramps and caps from the start set, of this cost.
     fn begin_root<R: Threads + Sync>(&mut self, workers: &Workers<'_, R>, cost: i128)
         ensures { KeepsShape self.old self.new }
     {
@@ -124,7 +124,7 @@ impl Adviser {
         }
     }
 
-    /// Sets core, ramps and caps for the next pass, where the bound is to come to this.
+    /// Sets core, ramps and caps of the next pass, for this cutoff.
     pub(crate) fn prepare<R: Threads + Sync>(
         &mut self,
         workers: &Workers<'_, R>,
@@ -155,7 +155,7 @@ impl Adviser {
         Ok(())
     }
 
-    /// Chooses the core anew where it is time for that, or where another place has a price.
+    /// Chooses the core again where that is due, or where another place has a penalty.
     fn choose_core<R: Threads + Sync>(
         &mut self,
         workers: &Workers<'_, R>,
@@ -183,7 +183,7 @@ impl Adviser {
         Ok(())
     }
 
-    /// Puts the values of the places outside the core right.
+    /// Completes the duals at the places outside the core.
     pub(crate) fn complete<R: Threads + Sync>(
         &mut self,
         workers: &Workers<'_, R>,

@@ -1,4 +1,4 @@
-//! The place to branch on.
+//! Strong branching: the candidate to branch on.
 
 ghost use Rattle.std.specs.Prelude.{◌≡◌};
 ghost use Rattle.dual_ascent.specs.Shapes.{KeepsShape};
@@ -11,12 +11,12 @@ use search_advice::Side;
 use std::alloc::{AllocError, Global};
 use std::thread::Threads;
 
-/// So many places are tried to branch on.
+/// The number of candidates that are tried.
 const MOST_TRIED: usize = 5;
-/// Trials turn to this part of the commodities with flow.
+/// Trials take this part of the commodities with flow.
 const LISTED_PART: usize = 10;
 
-/// A commodity by its flow, and by a number that says nothing where flows are equal.
+/// A commodity with its flow, and a number that breaks ties without regard to the order.
 #[derive(Clone, Copy, PartialEq, Eq, PartialOrd, Ord)]
 struct Weighty {
     flow: u32,
@@ -24,7 +24,7 @@ struct Weighty {
     commodity: usize,
 }
 
-/// The commodities of greatest flow, a tenth of those that have any.
+/// The tenth of the commodities with the greatest flows.
 pub(crate) fn listed(alloc: Global, lengths: &Lengths) -> Result<Vec<usize>, AllocError> {
     let mut all = Vec::with_capacity(alloc, lengths.flowing)?;
     for c in 0..lengths.commodities() {
@@ -47,8 +47,8 @@ pub(crate) fn listed(alloc: Global, lengths: &Lengths) -> Result<Vec<usize>, All
 }
 
 impl Adviser {
-    /// Tries places to branch on, where the bound is to come to this, and chooses the one whose two children seem to rise most: by the
-    /// product of the rises, none above the gap and none 0.
+    /// Strong branching: tries candidates on both sides, and chooses the one with the greatest product of rises, each
+    /// at least a little above 0 and at most the gap. `wanted` is the cutoff.
     pub(crate) fn choose_branch<R: Threads + Sync>(
         &mut self,
         workers: &Workers<'_, R>,
@@ -83,7 +83,7 @@ impl Adviser {
         Ok(())
     }
 
-    /// How much a pass over the listed commodities that could gain raises, with the place on this side.
+    /// The rise of the objective by a trial pass with the place on this side.
     fn rise<R: Threads + Sync>(
         &mut self,
         workers: &Workers<'_, R>,
@@ -115,8 +115,7 @@ impl Adviser {
         rise
     }
 
-    /// Of the free places whose prices are nearest to half the full one, the one with so many before it, if it is neither open nor
-    /// closed.
+    /// The free place with the penalty closest to a half after `before` others, if it is between closed and full.
     fn near_place(&self, before: usize) -> Option<usize> {
         let mut left = before;
         for turn in &self.node.order {

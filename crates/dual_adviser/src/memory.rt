@@ -1,4 +1,4 @@
-//! What an adviser knew at nodes, to go back to it.
+//! The state of the heuristic at earlier nodes, to return to.
 
 ghost use Rattle.dual_ascent.specs.Shapes.{KeepsShape};
 
@@ -8,7 +8,7 @@ use dual_ascent::{Quote, State, Sums};
 use search_advice::Side;
 use std::alloc::{AllocError, Global};
 
-/// Values but for those that are 0: how many each commodity has, and one after another their places and the values themselves.
+/// The values above 0: the number of them for each commodity, and their places and values in order.
 #[derive(Drop)]
 struct SparseValues {
     counts: Vec<u32>,
@@ -17,7 +17,7 @@ struct SparseValues {
 }
 
 impl SparseValues {
-    /// The values, of so many places for each of the commodities. There are fewer places than a byte can tell.
+    /// The values of `places` places for each commodity. A byte holds a place.
     fn of(
         alloc: Global,
         values: &[u32],
@@ -47,7 +47,7 @@ impl SparseValues {
         Ok(sparse)
     }
 
-    /// Puts the values in place of those of the duals.
+    /// Writes the values into the duals.
     fn put_into(&self, state: &mut State)
         ensures { KeepsShape state.old state.new }
     {
@@ -64,7 +64,7 @@ impl SparseValues {
     }
 }
 
-/// The duals of an adviser, and the sides, prices and core of the node.
+/// The duals of a heuristic, and sides, penalties and core of the node.
 #[derive(Drop)]
 pub(crate) struct Memory {
     quotes: Vec<Quote>,
@@ -77,7 +77,7 @@ pub(crate) struct Memory {
 }
 
 impl Memory {
-    /// A memory of these duals and of this node.
+    /// A copy of these duals and this node.
     pub(crate) fn of(alloc: Global, state: &State, node: &Node) -> Result<Memory, AllocError> {
         let commodities = state.quotes().len();
         Ok(Memory {
@@ -91,7 +91,7 @@ impl Memory {
         })
     }
 
-    /// Puts all back in its place.
+    /// Restores duals and node.
     pub(crate) fn recall(&self, state: &mut State, node: &mut Node)
         ensures { KeepsShape state.old state.new }
     {

@@ -1,11 +1,11 @@
-//! How the bounds of a node went from pass to pass, and whether more passes are worth their time.
+//! The bounds of a node after each pass, and whether another pass is worth its time.
 
 use ascent_lengths::at;
 use dual_ascent::{Gain, NO_GAIN};
 use std::alloc::{AllocError, Global};
 
-/// When a node is left, in passes: it has at most so many. It is left where the last `back` together gained little, once more than these
-/// and `least` were made, and where `far` passes more at the rate of the last two would not close it, once `rated` were made.
+/// The limits after which a node is left, in passes: after `most`; where the last `back` gained little, after more than
+/// these and `least`; and where `far` more at the rate of the last two would not fathom it, after `rated`.
 #[derive(Clone, Copy)]
 struct Patience {
     most: usize,
@@ -32,16 +32,16 @@ const BELOW: Patience = Patience {
     far: 8,
     rated: 3,
 };
-/// A gain is little where it is less than this part of the gap.
+/// A gain is little below this part of the gap.
 const LITTLE_GAIN: i128 = 8;
-/// A root whose gap is above a hundredth is not left by its rate before so many passes.
+/// A root with a gap above a hundredth is not left by its rate before this many passes.
 const ROOT_PATIENT: usize = 25;
-/// So many first passes of the root are made before a commodity waits.
+/// In this many first passes at the root no commodity is left out.
 const ROOT_WHOLE: usize = 2;
-/// A turn promises little where it is no more than this part of what turns of the last pass promised on the average.
+/// A step promises little up to this part of the mean promise of the last pass.
 const LITTLE_PART: i128 = 2;
 
-/// The best bound after each pass at a node, in 10^-12, the bound of now, and what the last pass brought.
+/// The best bound after each pass at a node, the present bound, both in 10^-12, and the result of the last pass.
 #[derive(Drop)]
 pub(crate) struct Progress {
     pub(crate) is_root: bool,
@@ -51,7 +51,7 @@ pub(crate) struct Progress {
 }
 
 impl Progress {
-    /// Progress with room for all passes.
+    /// No progress yet, with room for all passes.
     pub(crate) fn new(alloc: Global) -> Result<Progress, AllocError> {
         Ok(Progress {
             is_root: true,
@@ -61,7 +61,7 @@ impl Progress {
         })
     }
 
-    /// Begins a node.
+    /// Starts a node.
     pub(crate) fn begin(&mut self, is_root: bool) {
         self.is_root = is_root;
         self.bound = 0;
@@ -74,8 +74,8 @@ impl Progress {
         self.tops.len()
     }
 
-    /// How far the bound was below what is wanted after the last pass, in thousandths of the scale. Before the first pass it is far
-    /// at the root, and not below it.
+    /// The gap after the last pass, in thousandths of the scale; `wanted` is the cutoff. Before the first pass it is
+    /// `i128::MAX` at the root, and 0 below it.
     pub(crate) fn gap(&self, wanted: i128, scale: i128) -> i128 {
         match self.tops.last() {
             None if self.is_root => i128::MAX,
@@ -84,8 +84,7 @@ impl Progress {
         }
     }
 
-    /// What a turn of the next pass promises at most, for so many commodities, that the commodity waits after it. In
-    /// the first passes at the root none waits.
+    /// The promised gain up to which a commodity is left out after its step. In the first passes at the root none is.
     pub(crate) fn little(&self, commodities: usize) -> Option<i128> {
         if self.is_root && self.tops.len() < ROOT_WHOLE {
             return None;
@@ -94,8 +93,8 @@ impl Progress {
         Some(self.gain.promised / all / LITTLE_PART)
     }
 
-    /// Tells whether the last pass of a root, of few turns for so many commodities, brought little, where the bound is to come to
-    /// this. Below the root a node is mostly left then.
+    /// Returns whether the last pass at the root had few steps and gained little of the gap to the cutoff. Below the
+    /// root a node is mostly left then.
     pub(crate) fn is_idle(&self, commodities: usize, wanted: i128) -> bool {
         self.is_root
             && self.gain.turns < commodities as u64 / 8
@@ -103,28 +102,28 @@ impl Progress {
             && self.gained(1) < self.left(wanted) / LITTLE_GAIN
     }
 
-    /// By how much so many last passes raised the best bound.
+    /// The rise of the best bound in the last `back` passes.
     fn gained(&self, back: usize) -> i128 {
         let last = self.tops.len().saturating_sub(1);
         let before = at(&self.tops, last.saturating_sub(back));
         at(&self.tops, last).wrapping_sub(before)
     }
 
-    /// How far the best bound is below what is wanted.
+    /// The gap of the best bound to the cutoff.
     fn left(&self, wanted: i128) -> i128 {
         wanted.wrapping_sub(at(&self.tops, self.tops.len().saturating_sub(1)))
     }
 
-    /// Notes what a pass brought, and the bound after it.
+    /// Records the result of a pass, and the bound after it.
     pub(crate) fn note(&mut self, bound: i128, gain: Gain) {
         self.gain = gain;
         let top = self.tops.last().copied().unwrap_or(bound).max(bound);
         self.bound = bound;
-        // There is room for as many passes as a node has at most.
+        // There is room for the greatest number of passes.
         let _ = self.tops.push(top);
     }
 
-    /// Tells whether another pass is worth its time, where the bound is to come to this, and gaps are measured by the scale.
+    /// Returns whether another pass is worth its time, for this cutoff and this scale of gaps.
     pub(crate) fn goes_on(&self, wanted: i128, scale: i128) -> bool {
         let patience = if self.is_root { ROOT } else { BELOW };
         let (passes, left) = (self.tops.len(), self.left(wanted));

@@ -1,4 +1,4 @@
-//! The hub set that prices name: a guess to better, and to make duals tight at.
+//! Rounding: the hub set that penalties give, to improve, and to make duals tight at.
 
 ghost use Rattle.dual_ascent.specs.Shapes.{KeepsShape};
 
@@ -9,18 +9,19 @@ use std::alloc::AllocError;
 use std::thread::Threads;
 use tight_duals::{Manner, Scope};
 
-/// Duals are made tight at a set that costs above the bound by less than this part of its cost, and above the best known one by less than that.
+/// Duals are made tight at a set if its cost is above the bound by less than this part of it, and above the cutoff by
+/// less than `NEAR_BEST` of that.
 const NEAR_BOUND: i128 = 1 << 10;
 
 const NEAR_BEST: i128 = 1 << 7;
-/// And where a guess leaves no more than this part of the gap, or that part of the cost.
+/// And if the guess leaves at most this part of the gap, or `GUESSED_COST` of the cutoff.
 const GUESSED_GAP: i128 = 4;
 
 const GUESSED_COST: i128 = 1 << 17;
 
 impl Adviser {
-    /// Rounds the prices to a set, betters the guess from it, and makes the duals tight at it, where the
-    /// bound then comes to what is wanted.
+    /// Rounds the penalties to a set, improves it by local search, and makes the duals tight at it, if the bound then
+    /// reaches the cutoff.
     pub(crate) fn round<R: Threads + Sync>(
         &mut self,
         workers: &Workers<'_, R>,
@@ -48,7 +49,7 @@ impl Adviser {
         self.finish(workers, wanted)
     }
 
-    /// Makes the duals tight at the rounded set, if the bound then comes to what is wanted.
+    /// Makes the duals tight at the rounded set, if the bound then reaches the cutoff.
     fn finish<R: Threads + Sync>(
         &mut self,
         workers: &Workers<'_, R>,

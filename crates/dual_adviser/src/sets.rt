@@ -1,13 +1,13 @@
-//! The hub sets that are guessed at a node, and those that a local search began at.
+//! The hub sets of a node: the best one found, and those that local searches started from.
 
 use ascent_lengths::{Lengths, copy, fill, marked};
 use std::alloc::{AllocError, Global};
 
-/// No more sets are noted.
+/// The greatest number of recorded sets.
 const MOST_TRIES: usize = 4096;
 
-/// Hub sets by marks: the best that was found at a node, the start set, the set that prices were rounded to last, and
-/// the places that may move. `fixed` is what the hubs of the best known set cost to open. Costs are in 10^-12.
+/// Hub sets as marks: the best one found at a node, the start set, the last rounded set, and the places that may move.
+/// `fixed` is the fixed cost of the best known set. Costs are in 10^-12.
 #[derive(Drop)]
 pub(crate) struct Sets {
     pub(crate) best: Vec<bool>,
@@ -20,7 +20,7 @@ pub(crate) struct Sets {
 }
 
 impl Sets {
-    /// No sets, over so many places.
+    /// No sets, over this many places.
     pub(crate) fn new(alloc: Global, places: usize) -> Result<Sets, AllocError> {
         Ok(Sets {
             best: vec![in alloc; false; places]?,
@@ -35,14 +35,14 @@ impl Sets {
         })
     }
 
-    /// Forgets what was guessed at a node, where these hubs are the best known.
+    /// Starts a node, where these hubs are the best known.
     pub(crate) fn begin(&mut self, lengths: &Lengths, hubs: &[bool]) {
         fill(&mut self.best, false);
         self.cost = i128::MAX;
         self.fixed = lengths.fixed_cost_of(hubs);
     }
 
-    /// Takes the set as the best, where it costs less and has as many hubs as are wanted.
+    /// Takes the set as the best, if it costs less and has the required number of hubs.
     pub(crate) fn offer(&mut self, lengths: &Lengths, marks: &[bool], cost: i128) {
         let fits = match lengths.wanted {
             None => true,
@@ -55,8 +55,8 @@ impl Sets {
         }
     }
 
-    /// What gaps are measured by, where the best known set costs so much: that, or eight times its fixed costs, where these are little
-    /// of it.
+    /// The scale of gaps, for a best known set of this cost: the cost, or eight times its fixed costs, if these are a
+    /// small part of it.
     pub(crate) fn scale(&self, lengths: &Lengths, cost: i128) -> i128 {
         if lengths.wanted.is_some() {
             return cost.max(1);
@@ -67,14 +67,14 @@ impl Sets {
     }
 }
 
-/// Sets that a local search began at, each as the marks of up to 256 places.
+/// The sets that local searches started from, each as bits of up to 256 places.
 #[derive(Drop)]
 pub(crate) struct Tries {
     sets: Vec<[u64; 4]>,
 }
 
 impl Tries {
-    /// Notes the marked set, and tells whether it was not tried before. Where memory runs out it is not noted.
+    /// Records the marked set, and returns whether it is new. Where memory runs out it is not recorded.
     pub(crate) fn note(&mut self, marks: &[bool]) -> bool {
         let mut words = [0u64; 4];
         for (k, mark) in marks.iter().enumerate() {
