@@ -1,4 +1,4 @@
-//! Advice at a node: passes better the values, and guess the incumbent.
+//! Ascent passes at a node: they improve the dual values, and the hub set that may become the incumbent.
 
 ghost use Rattle.std.specs.Prelude.{◌≤◌, length, IfOk, OnOk, Contains};
 ghost use Rattle.hub_spec.specs.Trees.{IsBranch, HasRoom};
@@ -12,15 +12,15 @@ use search_advice::Advice;
 use std::alloc::AllocError;
 use std::thread::Threads;
 
-/// So many passes there are at most at the root.
+/// The greatest number of passes at the root.
 const ROOT_PASSES: u32 = 60;
 
-/// And at each node below.
+/// The greatest number of passes at each node below.
 const PASSES: u32 = 15;
 
 impl<R: Threads + Sync, A: Advice + Drop> Walker<'_, R, A> {
-    /// Takes advice at the branch, and tells whether that ended it: with a leaf of the cut of the values, or of a stop,
-    /// where two nodes more are not allowed.
+    /// Makes ascent passes at the branch, and returns whether that ended it: with a leaf on the cut of the values, or
+    /// with a stop where two more nodes are not allowed.
     pub(crate) fn end_by_advice(&mut self, branch: &Branch) -> Result<bool, AllocError>
         requires walking { IsWalking self.old.walk }
         requires branch { IsBranch self.old.walk.task.now.instance.now branch.now }
@@ -44,7 +44,7 @@ impl<R: Threads + Sync, A: Advice + Drop> Walker<'_, R, A> {
         self.walk.end_by_values(self.rt, values, branch)
     }
 
-    // Makes passes at the branch, as long as they are worth their time.
+    // Makes ascent passes at the branch while they are worth their time.
     fn take_advice(&mut self, branch: &Branch) -> Result<(), AllocError>
         requires { IsGoing self.old.walk.task.now self.old.walk.progress }
         ensures same { IsSameWalk self.old.walk self.new.walk }
@@ -61,8 +61,8 @@ impl<R: Threads + Sync, A: Advice + Drop> Walker<'_, R, A> {
         Ok(())
     }
 
-    // Makes one pass towards the goal, and takes the guess after it, unless a pass is not worth its time. It tells whether it
-    // did.
+    // Makes one pass towards the cutoff and offers the hub set after it, if a pass is worth its time. Returns whether
+    // it did.
     fn pass(&mut self) -> Result<bool, AllocError>
         requires { IsGoing self.old.walk.task.now self.old.walk.progress }
         ensures same { IsSameWalk self.old.walk self.new.walk }
@@ -77,7 +77,7 @@ impl<R: Threads + Sync, A: Advice + Drop> Walker<'_, R, A> {
         Ok(true)
     }
 
-    // Makes the guess the incumbent, if it is a hub set and costs less.
+    // Makes the hub set of the heuristic the incumbent, if it is feasible, is wanted, and costs less.
     fn take_guess(&mut self) -> Result<(), AllocError>
         requires { IsGoing self.old.walk.task.now self.old.walk.progress }
         ensures same { IsSameWalk self.old.walk self.new.walk }
@@ -93,7 +93,7 @@ impl<R: Threads + Sync, A: Advice + Drop> Walker<'_, R, A> {
         offer_nodes(self.walk.alloc, task, &hubs, &mut self.walk.progress)
     }
 
-    /// The node to branch on: that of the advice, or the first free one.
+    /// The node to branch on: that of the heuristic, or the first free one.
     pub(crate) fn branch_node(&self, branch: &Branch) -> u32
         requires { 1 ≤ length branch.now.free }
         ensures { Contains branch.now.free result }
@@ -108,7 +108,7 @@ impl<R: Threads + Sync, A: Advice + Drop> Walker<'_, R, A> {
     }
 }
 
-// The most passes at the branch.
+// The greatest number of passes at the branch.
 fn most_passes(branch: &Branch) -> u32 {
     if branch.inside().is_empty() && branch.outside().is_empty() {
         ROOT_PASSES

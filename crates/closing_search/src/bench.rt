@@ -1,4 +1,4 @@
-//! What a search works out exactly.
+//! The workspace of exact computations.
 
 ghost use Rattle.std.specs.Prelude.{◌≡◌, ◌≤◌, length, IfOk};
 ghost use Rattle.hub_spec.specs.Problem.{Problem};
@@ -17,8 +17,7 @@ use std::marker::Model;
 use std::thread::Threads;
 use value_cuts::CandidateLegs;
 
-/// The instance's tables, the values that were taken last, the loads of the cut that was worked out last, and room to
-/// work in.
+/// The instance's tables, the last values, the loads of the last cut, and buffers.
 #[derive(Drop)]
 pub(crate) struct Bench<'a> {
     tables: CandidateLegs<'a>,
@@ -38,7 +37,7 @@ impl<'a> Model for Bench<'a> {
 }
 
 impl<'a> Bench<'a> {
-    /// A bench for the instance, for values in this unit, in 10^-6 by unit of flow.
+    /// A workspace for the instance and for values in this unit, in 10^-6 per unit of flow.
     pub(crate) fn new(
         alloc: Global,
         instance: &'a Instance,
@@ -56,8 +55,8 @@ impl<'a> Bench<'a> {
         })
     }
 
-    /// Takes the values, and works out the total of their cut, its prices by so many workers, 1 to 64. By one worker it
-    /// takes no memory.
+    /// Takes the values, computes the exact prices of their cut by 1 to 64 workers, and returns its total. With one
+    /// worker it takes no memory.
     pub(crate) fn value_sums<R: Threads + Sync>(
         &mut self,
         rt: &R,
@@ -75,7 +74,7 @@ impl<'a> Bench<'a> {
         Ok(self.pricing.sum(&self.tables))
     }
 
-    /// What the cut of the values can be computed again from.
+    /// The stored form of the cut of the values, from which it can be computed again.
     pub(crate) fn kept_values(&self, alloc: Global) -> Result<KeptCut, AllocError>
         ensures { IfOk result (λ cut. kept_of cut ≡ by_values self.now.values) }
     {
@@ -101,7 +100,7 @@ impl<'a> Bench<'a> {
         )
     }
 
-    /// The load of each node in the cut that was worked out last, in 10^-12.
+    /// The load of each node in the last cut, in 10^-12.
     pub(crate) fn loads(&self) -> &[u128]
         ensures { result.now ≡ self.now.loads }
     {

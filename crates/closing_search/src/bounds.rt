@@ -21,13 +21,13 @@ use p_hub::bound_p;
 use search_core::WHOLE_WEIGHT;
 use std::alloc::AllocError;
 
-/// The whole weight, on one cut.
+/// The whole weight, for one cut.
 static WHOLE: [u128; 1] = [WHOLE_WEIGHT];
 
-/// The part of each cut whose sums the bench works out.
+/// The part of each cut that the workspace computes.
 static PART: [u32; 1] = [1];
 
-// What the bound by one cut is made of: its numbers, each in a list of one, and the whole weight on it.
+// The input of a bound by one cut: its numbers, each in a list of one, with the whole weight.
 fn cut_weighting<'a>(
     instance: &'a Instance,
     totals: &'a [u128],
@@ -47,7 +47,7 @@ fn cut_weighting<'a>(
     }
 }
 
-// What the bound by no cut is made of.
+// The input of a bound by no cut.
 fn bare_weighting<'a>(instance: &'a Instance) -> Weighting<'a>
     ensures problem { IsProblem instance.now }
     ensures lent { IsOnNone instance.now result }
@@ -62,7 +62,7 @@ fn bare_weighting<'a>(instance: &'a Instance) -> Weighting<'a>
     }
 }
 
-// The bound of the branch, which has room, under these weights: by the number of hubs that is wanted, if one is.
+// The bound of the branch, which has room, under these weights, for exactly p hubs if p is given.
 fn bound_by_number(instance: &Instance, weighting: &Weighting, branch: &Branch) -> i128
     requires numbers { AreWeightingNumbers weighting.now }
     requires nodes { IsBranchWithin weighting.now branch.now }
@@ -105,8 +105,7 @@ pub(crate) fn kept_bound(task: &Task, branch: &Branch, progress: &Progress, numb
 }
 
 impl Walk<'_> {
-    /// Tells whether the cut with this total, whose loads the bench has worked out last, fathoms at the cutoff in the branch,
-    /// alone.
+    /// Returns whether the last cut of the workspace, with this total, fathoms the branch at the cutoff.
     pub(crate) fn sums_close(&self, branch: &Branch, total: u128) -> Result<bool, AllocError>
         requires going { IsGoing self.now.task.now self.now.progress }
         requires branch { IsBranch self.now.task.now.instance.now branch.now }
@@ -125,7 +124,7 @@ impl Walk<'_> {
     }
 }
 
-/// Tells whether a bound closes the target.
+/// Returns whether a bound fathoms at the cutoff.
 pub(crate) fn is_above(bound: i128, target: u128) -> bool
     requires target { target ≤ most_cost }
     ensures { IsTrue result → Closes denominator target bound }

@@ -1,4 +1,4 @@
-//! The ends of branches in which no wanted hub set is left, or just one.
+//! Branches that end without a leaf: no wanted hub set is left. And the only set, where one is left.
 
 ghost use Rattle.std.specs.Prelude.{◌≡◌, ◌≤◌, ◌+◌, length, None, Some, IfOk, IfSome};
 ghost use Rattle.hub_spec.specs.Problem.{IsProblem};
@@ -11,8 +11,8 @@ use assign_sub::lacking;
 use hub_model::{Branch, HubSet, Instance, TreeLine};
 use std::alloc::{AllocError, Global};
 
-/// The line of a branch in which no wanted hub set is left, if none is: it has too many hubs or too few nodes for the
-/// wanted number, or none at all, or its hubs with all its free nodes are infeasible for a commodity.
+/// The line of a branch without a wanted hub set, if it is one: every candidate is closed, the number of hubs is
+/// impossible, or hubs and free nodes together are infeasible for a commodity.
 pub(crate) fn barren_line(
     alloc: Global,
     instance: &Instance,
@@ -28,7 +28,7 @@ pub(crate) fn barren_line(
     blocked_line(alloc, instance, branch)
 }
 
-// The line of a branch that cannot have as many hubs as are wanted, or any.
+// The line of a branch that has no candidate left, or that cannot have the wanted number of hubs.
 fn line_by_number(instance: &Instance, branch: &Branch) -> Option<TreeLine>
     ensures barren { IfSome result (λ l. IsBarren instance.now branch.now (tree_line_of l)) }
     ensures some_open { result ≡ None → 1 ≤ length branch.now.inside + length branch.now.free }
@@ -53,7 +53,7 @@ fn empty_line(instance: &Instance, branch: &Branch) -> Option<TreeLine>
     None
 }
 
-// The line of a branch that cannot have so many hubs.
+// The line of a branch that cannot have this number of hubs.
 fn count_line(instance: &Instance, branch: &Branch, hubs: u32) -> Option<TreeLine>
     requires wanted { instance.now.wanted ≡ Some hubs }
     requires some { 1 ≤ hubs }
@@ -69,8 +69,8 @@ fn count_line(instance: &Instance, branch: &Branch, hubs: u32) -> Option<TreeLin
     None
 }
 
-// The line of the first commodity that the hubs of the branch lack with all its free nodes, if they lack one. Where no
-// length is limited they lack none, and it takes no memory.
+// The line of the first commodity that hubs and free nodes together are infeasible for, if there is one. Where no
+// length is limited there is none, and it takes no memory.
 fn blocked_line(
     alloc: Global,
     instance: &Instance,
@@ -92,8 +92,8 @@ fn blocked_line(
     Ok(Some(TreeLine::Block { i, j }))
 }
 
-/// The one wanted hub set that is left in the branch, if just one is: its hubs where they are as many as are wanted, all
-/// its open nodes where these are, or where any number will do its hubs once no node is free.
+/// The only wanted hub set of the branch, if one is left. With a wanted number it is the hubs, or all nodes that are
+/// not closed, where these have that number. Else it is the hubs, once no node is free.
 pub(crate) fn last_set(
     alloc: Global,
     instance: &Instance,
@@ -127,7 +127,7 @@ fn decided_set(
     Ok(Some(HubSet::of(alloc, branch.inside())?))
 }
 
-// The hubs of a branch where they are so many, or all its open nodes where these are.
+// The hubs of a branch, or all nodes that are not closed, where these have the wanted number.
 fn full_set(
     alloc: Global,
     instance: &Instance,
@@ -151,7 +151,7 @@ fn full_set(
     Ok(None)
 }
 
-// The hubs of the branch with all its free nodes.
+// Hubs and free nodes of the branch together.
 fn all_open(alloc: Global, branch: &Branch) -> Result<HubSet, AllocError>
     requires some_open { 1 ≤ length branch.now.inside + length branch.now.free }
     ensures { IfOk result (λ set. set ≡ all_open branch.now) }

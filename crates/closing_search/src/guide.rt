@@ -1,17 +1,17 @@
-//! Who advises a search, asked in nodes in place of places.
+//! The heuristic of a search, called with nodes in place of places.
 
 use hub_model::{Branch, HubSet};
 use search_advice::{Advice, Side};
 use std::alloc::{AllocError, Global};
 
-/// Who advises, and room to tell it by place the sides of a branch and the hubs of a set.
+/// The heuristic, and buffers for the sides of a branch and the hubs of a set by place.
 #[derive(Drop)]
 pub(crate) struct Guide<A> {
     pub(crate) advice: A,
     places: Places,
 }
 
-/// Marks by place: the sides of a branch, and the hubs of a set.
+/// By place: the side in a branch, and whether it is a hub.
 #[derive(Drop)]
 struct Places {
     sides: Vec<Side>,
@@ -26,7 +26,7 @@ impl Places {
         })
     }
 
-    // Marks the sides of the branch and the hubs.
+    // Sets the sides of the branch and the hubs.
     fn mark(&mut self, candidates: &[u32], branch: &Branch, hubs: &[u32]) {
         set_sides(candidates, branch, &mut self.sides);
         set_marks(candidates, hubs, &mut self.hubs);
@@ -34,41 +34,41 @@ impl Places {
 }
 
 impl<A: Advice + Drop> Guide<A> {
-    /// A guide by this advice, over so many places.
+    /// Wraps this heuristic, for this many places.
     pub(crate) fn new(alloc: Global, places: usize, advice: A) -> Result<Guide<A>, AllocError> {
         let places = Places::new(alloc, places)?;
         Ok(Guide { advice, places })
     }
 
-    /// Goes to the branch. A guess is made from the hubs.
+    /// Enters the branch. A first hub set is made from the hubs.
     pub(crate) fn enter(&mut self, candidates: &[u32], branch: &Branch, hubs: &HubSet) {
         self.places.mark(candidates, branch, hubs.members());
         self.advice.enter(&self.places.sides, &self.places.hubs);
     }
 
-    /// Tells whether a pass is worth its time, where the bound is to come to this, in 10^-12.
+    /// Returns whether a pass is worth its time, for this cutoff in 10^-12.
     pub(crate) fn goes_on(&self, wanted: i128) -> bool {
         self.advice.bound_hint() < wanted && self.advice.goes_on(wanted)
     }
 
-    /// Tells whether the guess seems to cost less than this, in 10^-12.
+    /// Returns whether the heuristic's hub set seems to cost less than this, in 10^-12.
     pub(crate) fn has_guess_below(&self, cost: i128) -> bool {
         self.advice.cost_hint() < cost
     }
 
-    /// The nodes of the guess, ascending.
+    /// The nodes of the heuristic's hub set, ascending.
     pub(crate) fn guess(&self, alloc: Global, candidates: &[u32]) -> Result<Vec<u32>, AllocError> {
         marked(alloc, candidates, self.advice.guess())
     }
 
-    /// The node to branch on, if the advice knows one.
+    /// The node to branch on, if the heuristic names one.
     pub(crate) fn branch_node(&self, candidates: &[u32]) -> Option<u32> {
         let place = self.advice.branch_place()?;
         candidates.get(place).copied()
     }
 }
 
-// Sets the side of the branch on which each candidate is.
+// Sets the side of each candidate.
 fn set_sides(candidates: &[u32], branch: &Branch, sides: &mut [Side]) {
     for x in 0..sides.len() {
         let k = candidates.get(x).copied().unwrap_or(0);
@@ -94,7 +94,7 @@ fn set_marks(candidates: &[u32], hubs: &[u32], marks: &mut [bool]) {
     }
 }
 
-// The candidates that are marked, in their order.
+// The marked candidates, in order.
 fn marked(alloc: Global, candidates: &[u32], marks: &[bool]) -> Result<Vec<u32>, AllocError> {
     let mut nodes = Vec::new(alloc);
     for x in 0..candidates.len() {

@@ -1,4 +1,4 @@
-//! Cuts that become the next of those that are kept.
+//! Cuts that are stored.
 
 ghost use Rattle.std.specs.Prelude.{◌≡◌, ◌≤◌, length, IfOk, OnOk};
 ghost use Rattle.hub_spec.specs.Trees.{cut_at};
@@ -13,9 +13,9 @@ use hub_model::MOST_CUTS;
 use std::alloc::AllocError;
 
 impl Walk<'_> {
-    /// Keeps the cut with this total, whose loads the bench has worked out last, and gives its number.
+    /// Stores the cut with this total and the loads of the workspace, and returns its number.
     ///
-    /// The answer is `AllocError` also where there are as many cuts as a certificate can have.
+    /// Returns `AllocError` also where there are as many cuts as a certificate can have.
     pub(crate) fn keep(&mut self, cut: KeptCut, total: u128) -> Result<u64, AllocError>
         requires going { IsGoing self.old.task.now self.old.progress }
         requires own { IsRemade (kept_of cut) }

@@ -24,11 +24,11 @@ use hub_model::{Branch, HubSet, Mix, TreeLine, outside};
 use search_core::{WHOLE_WEIGHT, lesser, rounded_up, whole_leaf};
 use std::alloc::{AllocError, Global};
 
-/// So many of the newest stored cuts are tried at a branch before advice is asked for.
+/// The number of newest stored cuts that are tried at a branch before the heuristic.
 const MOST_TRIES: u64 = 64;
 
 impl Walk<'_> {
-    /// Ends the branch with the leaf of the stored cut of this number, which fathoms at the cutoff.
+    /// Ends the branch with the leaf on the stored cut of this number, which fathoms at the cutoff.
     pub(crate) fn cut_leaf(&mut self, branch: &Branch, number: u64) -> Result<(), AllocError>
         requires going { IsGoing self.old.task.now self.old.progress }
         requires least { 1 ≤ number }
@@ -46,7 +46,7 @@ impl Walk<'_> {
         end_with(self.task, branch, line, &mut self.progress)
     }
 
-    /// The number of a stored cut that fathoms at the cutoff in the branch, alone, if one of the newest does.
+    /// The number of a stored cut that alone fathoms the branch at the cutoff, if one of the newest does.
     pub(crate) fn closing_cut(&self, branch: &Branch) -> Option<u64>
         requires going { IsGoing self.now.task.now self.now.progress }
         requires branch { IsBranch self.now.task.now.instance.now branch.now }
@@ -67,8 +67,7 @@ impl Walk<'_> {
         None
     }
 
-    /// Ends the branch with the leaf of the cut of the one hub set that is left in it, which becomes the incumbent, if it costs
-    /// less.
+    /// Ends the branch with the leaf on the cut of its only hub set. That set becomes the incumbent, if it costs less.
     pub(crate) fn set_leaf(&mut self, branch: &Branch, set: HubSet) -> Result<(), AllocError>
         requires walking { IsWalking self.old }
         requires branch { IsBranch self.old.task.now.instance.now branch.now }
@@ -91,7 +90,7 @@ impl Walk<'_> {
         self.cut_leaf(branch, number)
     }
 
-    /// Ends the branch with the leaf that a stop makes of it: the first stop comes only where a node is free.
+    /// Ends the branch with the leaf of a stop. The first stop comes only where a node is free.
     pub(crate) fn stopped_leaf(&mut self, branch: &Branch) -> Result<(), AllocError>
         requires going { IsGoing self.old.task.now self.old.progress }
         requires branch { IsBranch self.old.task.now.instance.now branch.now }
@@ -120,7 +119,7 @@ fn leaf_line(alloc: Global, number: Option<u64>) -> Result<TreeLine, AllocError>
     }
 }
 
-/// A hub set, with the other candidates in the order for its cut.
+/// A hub set, and the order of the other candidates for its cut.
 #[derive(Drop)]
 pub(crate) struct OrderedSet {
     pub(crate) set: HubSet,
@@ -135,7 +134,7 @@ fn with_order(alloc: Global, task: &Task, set: HubSet) -> Result<OrderedSet, All
     Ok(OrderedSet { set, order })
 }
 
-// Makes the set the incumbent, if it costs less: the total of its cut, and what its hubs cost to open.
+// Makes the set the incumbent, if it costs less. Its cost is the total of its cut plus its fixed costs.
 fn offer_set(
     alloc: Global,
     task: &Task,
@@ -157,8 +156,8 @@ fn offer_set(
     Ok(())
 }
 
-/// The stored cut with the best bound in a branch, if it is better than that of no cut, and the bound, in 10^-12 times the
-/// whole weight.
+/// The stored cut with the best bound in a branch, if that is better than the bound by no cut; and the bound, in 10^-12
+/// times the whole weight.
 #[derive(Clone, Copy)]
 pub(crate) struct Choice {
     pub(crate) number: Option<u64>,
@@ -187,7 +186,7 @@ fn best_choice(task: &Task, branch: &Branch, progress: &Progress) -> Choice
     best
 }
 
-// The choice with the better bound, the first if they are equal.
+// The choice with the greater bound, the first if they are equal.
 fn better_of(best: Choice, other: Choice) -> Choice
     ensures { (result ≡ best) ⊎ ((best.bound ≤ℤ other.bound) × (result ≡ other)) }
 {

@@ -21,21 +21,22 @@ use search_advice::Advice;
 use std::alloc::{AllocError, Global};
 use std::thread::Threads;
 
-/// A wanted plan with the cuts and the tree that bound what any wanted plan costs. `nodes` is the most nodes of the tree,
-/// the root among them; with `None` they are not limited. The routes are least ones through the hubs of the plan, of those
-/// that are allowed. It costs at most what all candidates as hubs cost, since the search begins with them; where a number of
-/// hubs is wanted, what as many of the least candidates cost.
+/// A wanted plan, with the cuts and the tree that prove a lower bound on the cost of every wanted plan. `nodes` is the
+/// limit on the nodes of the tree, with the root; `None` is no limit. The routes are least allowed routes through the
+/// hubs of the plan. It costs at most what all candidates as hubs cost, or with p hubs what the p least candidates
+/// cost, since the search begins with these.
 ///
-/// All candidates together are feasible for each commodity: else there is no plan, which is for who calls to say
-/// (`assign_sub::lacking`). Where no length of routes is limited that is so (`all_candidates_serve`).
+/// All candidates together must be feasible for each commodity; the caller checks that (`assign_sub::lacking`). Where
+/// no length of routes is limited it holds (`all_candidates_serve`).
 ///
-/// Only where two nodes more are not allowed the search stops, and then the bound may be below the cost. Else both are
-/// equal and the plan is optimal. The bound is the greatest that its cuts prove by its tree. So many nodes as a whole tree has, 2^(q + 1) - 1 for q candidates, are always enough.
+/// The search stops only where two more nodes are not allowed, and then the bound may be below the cost. Else both are
+/// equal and the plan is optimal. The bound is the greatest that its cuts prove by its tree. The nodes of a whole tree,
+/// 2^(q + 1) - 1 for q candidates, always suffice.
 ///
-/// Nothing of the advice is relied on. That the same is found for equal advice is tested, and no clause says it; who advises may
-/// make passes by workers, in threads of their own.
+/// The heuristic is not trusted. Equal heuristics give equal findings; that is tested, and in no clause. A heuristic
+/// may use threads of its own.
 ///
-/// The answer is `AllocError` where memory runs out, and for a search that would have more cuts or tree lines than a
+/// Returns `AllocError` where memory runs out, and for a search that would have more cuts or tree lines than a
 /// certificate's text can have, 67,108,864 and 268,435,456.
 pub fn optimize<R: Threads + Sync, A: Advice + Drop>(
     rt: &R,
@@ -68,11 +69,10 @@ pub fn optimize<R: Threads + Sync, A: Advice + Drop>(
     optimize_within(rt, alloc, &task, advice)
 }
 
-/// The same for a task, up to its gap: how far the bound may be below the cost. The plan costs at most what the task's
-/// first nodes do too, where they are a set of candidates, as many as are wanted, that is feasible for each commodity.
-/// Only where two nodes more are not allowed the search stops, and then the bound may be further below. With a gap of 0
-/// and no first nodes it is `optimize`. That the number of workers changes nothing of what is found is tested, and no
-/// clause says it.
+/// The same for a task, up to its gap: how far the bound may be below the cost. The plan also costs at most what the
+/// first nodes of the task cost, where these are a feasible set of candidates of the wanted number. Only where two more
+/// nodes are not allowed the search stops, and then the bound may be further below. With a gap of 0 and no first nodes
+/// it is `optimize`. The finding is the same for every number of workers; that is tested, and in no clause.
 pub fn optimize_within<R: Threads + Sync, A: Advice + Drop>(
     rt: &R,
     alloc: Global,
@@ -101,7 +101,7 @@ pub fn optimize_within<R: Threads + Sync, A: Advice + Drop>(
     finish(alloc, task, progress)
 }
 
-// Handles the root, and all nodes below it, by this advice.
+// Evaluates the root and all nodes below it, with this heuristic.
 fn fill_tree<'a, R: Threads + Sync, A: Advice + Drop>(
     rt: &'a R,
     alloc: Global,
@@ -120,8 +120,8 @@ fn fill_tree<'a, R: Threads + Sync, A: Advice + Drop>(
     Ok(walk.progress)
 }
 
-// No cut and no line, and the first incumbent: the first nodes of the task, where they cost less than that of a bare
-// beginning.
+// The state at the start: no cut, no line, and the cheaper of two incumbents: the instance's own, and the first nodes
+// of the task.
 fn begin(alloc: Global, task: &Task) -> Result<Progress, AllocError>
     requires lacks_none { IsHubSet task.now.instance.now task.now.instance.now.candidates }
     requires gap { task.now.gap ≤ most_gap }
@@ -150,7 +150,8 @@ struct Incumbent {
     cost: u128,
 }
 
-// The hubs that the instance gives, or the first nodes of the task, where they are a hub set that is wanted and cost less.
+// The hubs of the instance's first incumbent, or the first nodes of the task, where they are a wanted hub set and cost
+// less.
 fn first_incumbent(alloc: Global, task: &Task) -> Result<Incumbent, AllocError>
     requires lacks_none { IsHubSet task.now.instance.now task.now.instance.now.candidates }
     ensures problem { IsProblem task.now.instance.now }
@@ -166,7 +167,7 @@ fn first_incumbent(alloc: Global, task: &Task) -> Result<Incumbent, AllocError>
     }
 }
 
-// The incumbent, or the task's first nodes where they cost less.
+// The incumbent, or the first nodes of the task where they cost less.
 fn cheaper(task: &Task, own: Incumbent, given: HubSet) -> Incumbent
     requires first { AreFirstHubs task.now.instance.now own.hubs }
     requires cost { IsSetCost task.now.instance.now own.hubs own.cost }
@@ -183,7 +184,7 @@ fn cheaper(task: &Task, own: Incumbent, given: HubSet) -> Incumbent
     own
 }
 
-// The hubs that the instance gives: all candidates, or the first ones, as many as are wanted.
+// The first incumbent of the instance: all candidates, or the p least ones.
 fn first_hubs(instance: &Instance) -> &[u32]
     requires lacks_none { IsHubSet instance.now instance.now.candidates }
     ensures problem { IsProblem instance.now }
@@ -196,7 +197,7 @@ fn first_hubs(instance: &Instance) -> &[u32]
     }
 }
 
-// The incumbent with its least routes, and what no plan costs less than.
+// The incumbent with its least routes, and the lower bound on the cost of every plan.
 fn finish(alloc: Global, task: &Task, progress: Progress) -> Result<Found, AllocError>
     requires { IsOver task.now progress }
     ensures proved { IfOk result (IsProved task.now.instance.now) }

@@ -1,4 +1,4 @@
-//! The values that were taken last, priced.
+//! The exact prices of the last values.
 
 ghost use Rattle.std.specs.Prelude.{◌≤◌, IfOk, OnOk};
 ghost use Rattle.hub_spec.specs.Problem.{Problem};
@@ -11,7 +11,7 @@ use std::alloc::{AllocError, Global};
 use std::thread::Threads;
 use value_cuts::{CandidateLegs, PriceScratch, Values, set_prices_by_workers, sums_of};
 
-/// The values that were taken last, and the prices and loads of their cut.
+/// The last values, and prices and loads of their cut.
 #[derive(Drop)]
 pub(crate) struct Pricing {
     pub(crate) values: Values,
@@ -21,7 +21,7 @@ pub(crate) struct Pricing {
 }
 
 impl Pricing {
-    /// Values of 0, in this unit, as far as a small number holds it.
+    /// Values of 0, in this unit, capped at 32 bits.
     pub(crate) fn new(
         alloc: Global,
         tables: &CandidateLegs,
@@ -39,14 +39,14 @@ impl Pricing {
         })
     }
 
-    /// Takes these values, as far as both lists go.
+    /// Sets the values, as far as both lists go.
     pub(crate) fn take(&mut self, values: &[u32])
         ensures { (p : Problem) → IsPricingFor p self.old → IsPricingFor p self.new }
     {
         copy_values(values, self.values.rows_mut());
     }
 
-    /// Works out the prices of the values, by so many workers.
+    /// Computes the exact prices of the values, by several workers.
     pub(crate) fn price<R: Threads + Sync>(
         &mut self,
         rt: &R,
@@ -70,7 +70,7 @@ impl Pricing {
         )
     }
 
-    /// Works out the loads of the cut of the values, whose prices are known, and gives its total.
+    /// Computes the loads of the cut of the values, whose prices are known, and returns its total.
     pub(crate) fn sum(&mut self, tables: &CandidateLegs) -> u128
         requires fit { IsPricingFor tables.now self.old }
         requires prices { AreRowPrices tables.now self.old.values self.old.prices.items }

@@ -1,4 +1,4 @@
-//! What a search has so far, and the lines that it adds.
+//! The state of a search, and the lines that it adds.
 
 ghost use Rattle.std.specs.Prelude.{◌≡◌, ◌+◌, ◌≤◌, IsTrue, false, Contains, None, IfSome, IfOk, OnOk};
 ghost use Rattle.hub_spec.specs.Limits.{most_cost};
@@ -21,8 +21,8 @@ use hub_model::{Branch, HubSet, Instance, TreeLine, has_wanted, is_candidate_set
 use search_core::{add_line, lesser};
 use std::alloc::{AllocError, Global};
 
-/// The cuts and the lines of the tree, the incumbent with its cost, the nodes made, whether the search stopped for want of
-/// nodes, and the least that a leaf of a cut or of the stop says of every plan. Costs are in 10^-12.
+/// Cuts, tree lines, incumbent with its cost, number of nodes, whether the search was stopped, and `left`: the least
+/// bound of a leaf on a cut or of a stop. Costs are in 10^-12.
 #[derive(Drop)]
 pub(crate) struct Progress {
     pub(crate) cuts: KeptCuts,
@@ -34,14 +34,14 @@ pub(crate) struct Progress {
     pub(crate) left: Option<u128>,
 }
 
-/// What all leaves close, in 10^-12: the incumbent's cost, or the least of it and of what leaves say.
+/// The bound that all leaves reach, in 10^-12: the incumbent's cost, or the least of it and of `left`.
 pub(crate) fn target(progress: &Progress) -> u128
     ensures { result ≡ target_of progress.now }
 {
     lesser(progress.cost, progress.left)
 }
 
-/// What a leaf is to close before a stop, in 10^-12: the incumbent's cost less the gap.
+/// The cutoff of a leaf before a stop, in 10^-12: the incumbent's cost less the gap.
 pub(crate) fn goal(task: &Task, progress: &Progress) -> u128
     requires { IsGoing task.now progress.now }
     ensures value { result ≡ goal_of task.now.gap progress.now.cost }
@@ -69,7 +69,7 @@ pub(crate) fn end_with(
     Ok(())
 }
 
-/// Adds the line of a branch on the free node, which makes two nodes more.
+/// Adds the line of a branching on the free node, which makes two more nodes.
 pub(crate) fn split_on(
     task: &Task,
     branch: &Branch,
@@ -87,7 +87,7 @@ pub(crate) fn split_on(
     Ok(())
 }
 
-/// Tells whether two nodes more are allowed.
+/// Returns whether two more nodes are allowed.
 pub(crate) fn may_split(task: &Task, progress: &Progress) -> bool
     requires { IsGoing task.now progress.now }
     ensures may { IsTrue result → AreWithin task.now.nodes (progress.now.made + 2) }
@@ -96,7 +96,7 @@ pub(crate) fn may_split(task: &Task, progress: &Progress) -> bool
     task.allows_two(progress.made)
 }
 
-/// Makes the set, which has as many hubs as are wanted, the incumbent, if it costs less.
+/// Makes the wanted set the incumbent, if it costs less.
 pub(crate) fn offer(task: &Task, set: HubSet, cost: u128, progress: &mut Progress)
     requires going { IsGoing task.now progress.old }
     requires set { IsHubSet task.now.instance.now set }
@@ -112,8 +112,7 @@ pub(crate) fn offer(task: &Task, set: HubSet, cost: u128, progress: &mut Progres
     }
 }
 
-/// Makes the nodes the incumbent, whatever they are, if they are a set of candidates, as many as are wanted, that is
-/// feasible for each commodity and costs less.
+/// Makes the nodes the incumbent, if they are a feasible set of candidates of the wanted number, and cost less.
 pub(crate) fn offer_nodes(
     alloc: Global,
     task: &Task,
@@ -130,8 +129,7 @@ pub(crate) fn offer_nodes(
     Ok(())
 }
 
-/// The nodes, whatever they are, as a hub set, if they are a set of candidates, as many as are wanted, that is feasible
-/// for each commodity.
+/// The nodes as a hub set, if they are a feasible set of candidates of the wanted number.
 pub(crate) fn wanted_set(
     alloc: Global,
     instance: &Instance,

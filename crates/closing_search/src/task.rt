@@ -1,4 +1,4 @@
-//! What a search is to do.
+//! The task of a search.
 
 ghost use Rattle.std.specs.Prelude.{◌≡◌, ◌+◌, ◌<◌, ◌^◌, IsTrue, false};
 ghost use Rattle.search_spec.specs.Findings.{AreWithin, IsSpent};
@@ -8,24 +8,24 @@ use hub_model::Instance;
 /// The greatest gap, in thousandths of a per cent: the whole cost.
 pub(crate) const MOST_GAP: u32 = 100_000;
 
-/// What a search is to do.
+/// The task of a search.
 #[derive(Clone, Copy)]
 pub struct Task<'a> {
-    /// The instance that is searched.
+    /// The instance.
     pub instance: &'a Instance,
-    /// The most nodes of the tree, the root among them; with `None` they are not limited.
+    /// The limit on the nodes of the tree, with the root; `None` is no limit.
     pub nodes: Option<u64>,
-    /// The gap that the search may leave between its bound and the cost, in thousandths of a per cent of the cost.
+    /// The gap that the search may leave between bound and cost, in thousandths of a per cent of the cost.
     pub gap: u32,
-    /// How many workers work out exact prices, 1 to 64.
+    /// The number of workers that compute exact prices, 1 to 64.
     pub workers: u32,
-    /// Nodes that are tried as the first incumbent, whatever they are: they become it where they are a set of candidates, as
-    /// many as are wanted, that is feasible for each commodity, and cost less than what the search would begin with.
+    /// Nodes to try as the first incumbent. They become it where they are a feasible set of candidates of the wanted
+    /// number, and cost less than the instance's own first incumbent.
     pub first: &'a [u32],
 }
 
 impl Task<'_> {
-    /// Tells whether two nodes more are allowed, where so many were made.
+    /// Returns whether two more nodes are allowed after this many.
     pub(crate) fn allows_two(&self, made: u64) -> bool
         requires { made + 2 < 2 ^ 64 }
         ensures may { IsTrue result → AreWithin self.now.nodes (made + 2) }

@@ -1,4 +1,4 @@
-//! The cut of the values of the advice, at a branch.
+//! The cut of the heuristic's values, at a branch.
 
 ghost use Rattle.std.specs.Prelude.{◌≡◌, ◌≤◌, length, IsTrue, false, IfOk, OnOk};
 ghost use Rattle.hub_spec.specs.Trees.{IsBranch, HasRoom, cut_at};
@@ -16,8 +16,8 @@ use std::alloc::AllocError;
 use std::thread::Threads;
 
 impl Walk<'_> {
-    /// Ends the branch by the cut of the values, if that closes it, or by a stop, where two nodes more are not allowed,
-    /// and tells whether it did.
+    /// Ends the branch with the leaf on the cut of the values, if it fathoms, or with a stop where two more nodes are
+    /// not allowed. Returns whether it did.
     pub(crate) fn end_by_values<R: Threads + Sync>(
         &mut self,
         rt: &R,
@@ -42,8 +42,8 @@ impl Walk<'_> {
         Ok(true)
     }
 
-    // Keeps the cut of the values that were taken last, and ends the branch: by that cut, if it fathoms at the cutoff, or
-    // else by a stop.
+    // Stores the cut of the last values, and ends the branch: with the leaf on that cut, if it fathoms at the cutoff,
+    // else with a stop.
     fn end_by_sums(&mut self, branch: &Branch, total: u128, closes: bool) -> Result<(), AllocError>
         requires going { IsGoing self.old.task.now self.old.progress }
         requires fit { AreValuesFor self.old.task.now.instance.now self.old.bench.values }
@@ -65,7 +65,7 @@ impl Walk<'_> {
         }
     }
 
-    // Keeps the cut of the values that were taken last, and gives its number.
+    // Stores the cut of the last values, and returns its number.
     fn keep_values(&mut self, total: u128) -> Result<u64, AllocError>
         requires going { IsGoing self.old.task.now self.old.progress }
         requires fit { AreValuesFor self.old.task.now.instance.now self.old.bench.values }

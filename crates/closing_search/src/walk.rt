@@ -1,4 +1,4 @@
-//! A walk over the tree: what it is to do, works with and has.
+//! The walk over the tree: task, workspace and state.
 
 ghost use Rattle.std.specs.Prelude.{◌≡◌, IfOk};
 
@@ -7,7 +7,7 @@ use crate::progress::Progress;
 use crate::task::Task;
 use std::alloc::{AllocError, Global};
 
-/// A walk over the tree: its task, a bench for the instance, and what the search has so far.
+/// The walk over the tree: its task, the workspace for the instance, and the state so far.
 #[derive(Drop)]
 pub(crate) struct Walk<'a> {
     pub(crate) alloc: Global,
@@ -17,7 +17,7 @@ pub(crate) struct Walk<'a> {
 }
 
 impl<'a> Walk<'a> {
-    /// A walk that goes on from what the search has, for values in this unit, in 10^-6 by unit of flow.
+    /// A walk that goes on from this state, for values in this unit, in 10^-6 per unit of flow.
     pub(crate) fn new(
         alloc: Global,
         task: &'a Task<'a>,

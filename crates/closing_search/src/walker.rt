@@ -1,4 +1,4 @@
-//! Who walks.
+//! The walk over the tree with its heuristic.
 
 ghost use Rattle.std.specs.Prelude.{◌≡◌, IfOk};
 
@@ -9,7 +9,7 @@ use crate::walk::Walk;
 use search_advice::Advice;
 use std::alloc::{AllocError, Global};
 
-/// A walk with who advises it, and the runtime's handle for the advice's threads.
+/// A walk with its heuristic, and the runtime's handle for the heuristic's threads.
 #[derive(Drop)]
 pub(crate) struct Walker<'a, R, A> {
     pub(crate) rt: &'a R,
@@ -18,7 +18,7 @@ pub(crate) struct Walker<'a, R, A> {
 }
 
 impl<'a, R, A: Advice + Drop> Walker<'a, R, A> {
-    /// A walker with this advice, who goes on from what the search has.
+    /// A walk with this heuristic, which goes on from the state so far.
     pub(crate) fn new(
         rt: &'a R,
         alloc: Global,

@@ -1,4 +1,4 @@
-//! The walk over the tree, the open child of a branch first.
+//! The walk over the tree, the open child first.
 
 ghost use Rattle.std.specs.Prelude.{◌+◌, ◌≤◌, length, OnOk};
 ghost use Rattle.hub_spec.specs.Trees.{IsBranch};
@@ -15,7 +15,7 @@ use std::alloc::AllocError;
 use std::thread::Threads;
 
 impl<R: Threads + Sync, A: Advice + Drop> Walker<'_, R, A> {
-    /// Handles the node of a branch, and all nodes below it.
+    /// Evaluates the node of a branch, and all nodes below it.
     #[cycle(walk)]
     pub(crate) fn node(&mut self, branch: &Branch) -> Result<(), AllocError>
         requires walking { IsWalking self.old.walk }
@@ -41,7 +41,7 @@ impl<R: Threads + Sync, A: Advice + Drop> Walker<'_, R, A> {
         self.parted(branch)
     }
 
-    /// Parts the branch on a free node, where two nodes more are allowed.
+    /// Branches on a free node, where two more nodes are allowed.
     #[cycle(walk)]
     fn parted(&mut self, branch: &Branch) -> Result<(), AllocError>
         requires walking { IsWalking self.old.walk }
@@ -62,7 +62,7 @@ impl<R: Threads + Sync, A: Advice + Drop> Walker<'_, R, A> {
         self.child(closed)
     }
 
-    /// Handles the node of a child, which is not needed any more.
+    /// Evaluates the node of a child, which is dropped then.
     #[cycle(walk)]
     fn child(&mut self, branch: Branch) -> Result<(), AllocError>
         requires walking { IsWalking self.old.walk }
