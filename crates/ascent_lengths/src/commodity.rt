@@ -195,7 +195,7 @@ impl HubRoutes<'_> {
         }
     }
 
-    /// The least length where the other hub's last leg is taken from the list; above `FAR` where there is none.
+    /// The least length where the other hub's outer leg is taken from the list; above `FAR` where there is none.
     pub fn least(&self, others: &[u32]) -> u32 {
         let least = match self.fan {
             None => least_sum(self.trunk, others),

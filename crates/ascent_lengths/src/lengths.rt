@@ -30,7 +30,7 @@ pub struct Lengths {
     pub flowing: usize,
     /// The fixed cost of each place, in the cost of one unit of flow along one unit of length.
     pub fixed: Vec<i64>,
-    /// The penalty of a hub set for each commodity that it is infeasible for, in 10^-12: more than any feasible set
+    /// The surcharge of a hub set for each commodity that it is infeasible for, in 10^-12: more than any feasible set
     /// costs.
     pub lack_cost: i128,
     units: Units,
