@@ -1,4 +1,4 @@
-//! The check of a certificate that is held.
+//! The check of a certificate that is held in memory.
 
 ghost use Rattle.std.specs.Prelude.{◌≡◌, ◌↔◌, length, IsTrue, IfOk};
 ghost use Rattle.hub_spec.specs.Problem.{IsProblem};
@@ -15,13 +15,14 @@ use hub_model::Instance;
 use std::alloc::{AllocError, Global};
 use std::thread::Threads;
 
-/// The line of a certificate's text that says its numbers of nodes and of candidates, counted from 1.
+/// The line of a certificate's text that states its numbers of nodes and of candidates, counted from 1.
 pub(crate) const SIZE_LINE: u64 = 2;
 
-/// What the certificate shows of its plan for the instance.
+/// What the certificate proves of its plan for the instance.
 ///
-/// The conditions are tried in order: size, bound and cost, plan, cuts and their marks, tree. Lines are those of the
-/// certificate's text, counted from 1. The duals of a large cut are tried side by side. The only error is want of memory.
+/// The conditions are tested in order: size, bound and cost, plan, cuts and their marks, tree. Lines are those of the
+/// certificate's text, counted from 1. The duals of a large cut are tested in parallel. It fails only where memory runs
+/// out.
 pub fn check<R: Threads + Sync>(
     rt: &R,
     alloc: Global,
@@ -44,7 +45,7 @@ pub fn check<R: Threads + Sync>(
     Ok(verdict_by(certificate, &checks))
 }
 
-/// Tells whether the certificate's numbers of nodes and candidates are the instance's.
+/// Whether the certificate's numbers of nodes and candidates are the instance's.
 pub(crate) fn is_of_size(instance: &Instance, certificate: &Certificate) -> bool
     ensures problem { IsProblem instance.now }
     ensures in_range { IsStatedInRange certificate.now }
@@ -54,7 +55,7 @@ pub(crate) fn is_of_size(instance: &Instance, certificate: &Certificate) -> bool
         && certificate.candidates() as usize == instance.candidates().len()
 }
 
-/// The verdict, where the check has taken all lines.
+/// The verdict after the check of all lines.
 fn verdict_by(certificate: &Certificate, checks: &Checks<'_>) -> Verdict
     requires problem { IsProblem checks.now.instance.now }
     requires taken { HasTaken (items_of certificate.now) checks.now }
@@ -72,7 +73,7 @@ fn verdict_by(certificate: &Certificate, checks: &Checks<'_>) -> Verdict
     }
 }
 
-/// The verdict where all conditions hold.
+/// The verdict if all conditions hold.
 fn verdict_of(certificate: &Certificate) -> Verdict
     ensures { IsByCost certificate.now result }
 {

@@ -1,4 +1,4 @@
-//! Why a check has no ending.
+//! Why a check was given up.
 
 ghost use Rattle.std.specs.Prelude.{◌≡◌};
 ghost use Rattle.cert_checker.specs.declared.endings.NoEnding.TheVariants.{OutOfMemory, ReadFault};
@@ -6,12 +6,12 @@ ghost use Rattle.cert_checker.specs.declared.endings.NoEnding.TheVariants.{OutOf
 use hub_io::Failed;
 use std::alloc::AllocError;
 
-/// Why a check has no ending.
+/// Why a check was given up.
 #[derive(Clone, Copy, Debug, PartialEq, Eq)]
 pub enum NoEnding {
     /// A call on the shelf failed.
     ReadFault,
-    /// What the check keeps finds no room in memory.
+    /// Memory ran out.
     OutOfMemory,
 }
 

@@ -1,4 +1,4 @@
-//! The check of the bytes that a shelf holds under a name.
+//! The check of a file on a shelf.
 
 ghost use Rattle.std.specs.Prelude.{◌≡◌, ℕ, ◌++◌, ◌<◌, ◌≤◌, List, [], length, take, IfOk, IsSome};
 ghost use Rattle.std.specs.Io.KnownBytes.{Consumes, IsAtEnd};
@@ -22,10 +22,10 @@ const PIECE: usize = 65_536;
 // How many bytes are read in all, at most: one more than a certificate may have.
 const MOST_READ: usize = MOST_CERTIFICATE_BYTES + 1;
 
-/// The ending of the check of the bytes of that name against the instance. They are read to their end whatever is found
-/// before; where they are more than 2^30, that and one byte of them are read.
+/// Checks the file of this name against the instance. It reads the file to its end, also after a failure, but no more than
+/// 2^30 + 1 bytes.
 ///
-/// Memory is taken for one path of a tree, and for the sums of each cut.
+/// It allocates one path of a tree, and the sums of each cut.
 #[tactic(auto, using(crate::proofs::Reading::verdict_over, crate::proofs::Reading::rest_over, crate::proofs::Reading::told_first))]
 pub fn check_held<S: Shelf>(
     alloc: Global,

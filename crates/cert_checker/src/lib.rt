@@ -1,17 +1,20 @@
 //! The check of a whole certificate against an instance; it knows nothing of the search.
 //!
-//! The conditions are those of `cert_conditions`, whose `Checks` takes a certificate's lines one after another and tells the
-//! first condition that fails. Here stand those who give it the lines. [`Stream`] has them from bytes that come piece by
-//! piece, by a scan, and [`check_held`] from a file that a shelf holds. [`check`] has them from a certificate that is held
-//! (`walks`), and tries the duals of a cut side by side before their lines come (`side_by_side`). [`check_text`] reads bytes
-//! as a certificate and checks it. A marked cut is to be a core cut by its mark; where the verdict is not against the
-//! certificate, no cut of the instance that is tight at the hubs of a mark dominates the marked cut.
+//! The conditions are those of `cert_conditions`. Its `Checks` takes a certificate's lines one after another and returns the
+//! first condition that fails. This crate supplies the lines:
 //!
-//! Of an older certificate, whose cuts a search is to begin with, [`check_cuts`] tries its size and its cuts for the present
-//! instance, and neither its bound, plan, tree nor marks. [`read_older`] reads bytes as such a certificate, and gives it where
-//! its size is the instance's and its cuts are cuts of the instance; else it says what is against it. [`read_sized`] tries the
-//! text and the size line alone: the duals may be of an instance with other fixed costs, numbers of hubs or factors, since a
-//! search that takes advice trusts none of them.
+//! - [`Stream`] scans bytes that arrive piece by piece, and [`check_held`] a file on a shelf.
+//! - [`check`] goes over a certificate in memory (`walks`). It tests the duals of a cut in parallel before it takes their
+//!   lines (`side_by_side`). [`check_text`] parses bytes as a certificate and checks it.
+//!
+//! A marked cut must be Pareto-optimal (Magnanti and Wong 1981) by its mark. If the verdict accepts the certificate, no
+//! Benders cut of the instance that is tight at the hubs of a mark dominates the marked cut.
+//!
+//! An older certificate may be the warm start of a search. [`check_cuts`] tests its size and its cuts for the present
+//! instance, and ignores its bound, plan, tree and marks. [`read_older`] parses bytes as such a certificate. It returns the
+//! certificate if its size is the instance's and its cuts are cuts of the instance, and otherwise the reason. [`read_sized`]
+//! tests the text and the size line alone. The duals may then belong to an instance with other fixed costs, numbers of hubs
+//! or factors: a search by dual ascent trusts none of them.
 #![tactic(auto)]
 
 // What is answered.

@@ -1,4 +1,4 @@
-//! An older certificate, whose cuts are to be given to a search.
+//! An older certificate as the warm start of a search.
 
 ghost use Rattle.std.specs.Prelude.{◌≡◌, ℕ, ◌+◌, ◌*◌, ◌<◌, ◌≤◌, ◌↔◌, length, slice_index, IsTrue, IfOk, All};
 ghost use Rattle.std.specs.Option.{IfSome, IfNone, IsNone};
@@ -25,23 +25,23 @@ use hub_model::{Instance, MOST_COST};
 use std::alloc::{AllocError, Global};
 use std::thread::Threads;
 
-/// An older certificate, by its bytes. Lines count from 1.
+/// What bytes are as an older certificate. Lines count from 1.
 #[derive(Drop)]
 pub enum Older {
-    /// They are this certificate: its size is the instance's, and its cuts are cuts of the instance.
+    /// They are this certificate. Its size is the instance's, and its cuts are cuts of the instance.
     Serves(Certificate),
-    /// They are a certificate of which the first of these conditions that fails is of this kind, at this line.
+    /// They are a certificate. The first of these conditions that fails is of this kind, at this line.
     ServesNot { kind: Kind, line: u64 },
-    /// This line is not as wanted, or something stands after the last line.
+    /// This line is wrong, or bytes follow the last line.
     BadLine { line: u64 },
     /// They end before this line ends.
     Ended { line: u64 },
-    /// They are more than 2^30.
+    /// They are more than 2^30 bytes.
     TooLong,
 }
 
-/// What is said of the bytes of an older certificate. They are read as a certificate, whose size and cuts are then tried:
-/// its bound, plan and tree may be of another instance, and its marks are passed over. The only error is want of memory.
+/// Parses bytes as an older certificate and tests its size and its cuts. Its bound, plan and tree may belong to another
+/// instance, and its marks are ignored. It fails only where memory runs out.
 pub fn read_older<R: Threads + Sync>(
     rt: &R,
     alloc: Global,
@@ -74,10 +74,10 @@ fn older_by(certificate: Certificate, failing: Option<(Kind, u64)>) -> Older
     }
 }
 
-/// What is asked of an older certificate whose cuts are to be given: its size, and its cuts, whatever their marks. The
-/// answer is the first condition that fails, with its line in the certificate's text, counted from 1, or `None`.
+/// Tests the size and the cuts of an older certificate, whatever their marks. It returns the first condition that fails, with
+/// its line in the certificate's text, counted from 1, or `None`.
 ///
-/// The cuts are tried one after another, dual by dual on a line of `dual_lines`. The only error is want of memory.
+/// The cuts are tested one after another. It fails only where memory runs out.
 pub fn check_cuts<R: Threads + Sync>(
     _rt: &R,
     alloc: Global,

@@ -1,4 +1,4 @@
-//! An older certificate's bytes, by their size alone.
+//! An older certificate, tested by its size alone.
 
 ghost use Rattle.std.specs.Prelude.{◌≡◌, ◌↔◌, IfOk, IsTrue};
 ghost use Rattle.hub_spec.specs.Problem.{IsProblem};
@@ -10,7 +10,7 @@ use cert_format::{CertFault, Certificate, read_cert};
 use hub_model::Instance;
 use std::alloc::{AllocError, Global};
 
-/// The line of a certificate that tells its size, counted from 1.
+/// The line of a certificate that states its size, counted from 1.
 const SIZE_LINE: u64 = 2;
 
 /// Reads an older certificate for the instance. It tests the text, its length and its size line, and nothing else;

@@ -1,5 +1,5 @@
-//! The runs of a cut's duals, each of which is a line: from the second version on equal neighbours of one origin, and in
-//! the first each dual alone.
+//! The runs of a cut's duals, each of which is a line. From version 2 on a run is equal neighbours of one origin. In version
+//! 1 it is a single dual.
 
 ghost use Rattle.std.specs.Prelude.{◌≡◌, ◌+◌, ◌*◌, ◌^◌, ◌<◌, ◌≤◌, length};
 ghost use Rattle.hub_spec.specs.Limits.{most_nodes};
@@ -10,7 +10,7 @@ ghost use Rattle.cert_checker.specs.Runs.{place_of, begins_run, begun};
 use cert_format::Version;
 use cut_model::StatedCut;
 
-/// How many runs the duals have.
+/// The number of runs of the duals.
 pub(crate) fn run_count(version: Version, n: u32, cut: &StatedCut) -> u64
     requires some { 1 ≤ n }
     requires few { n ≤ most_nodes }
@@ -21,7 +21,7 @@ pub(crate) fn run_count(version: Version, n: u32, cut: &StatedCut) -> u64
     run_place(version, n, cut, n * n - 1) + 1
 }
 
-/// The number of the run, counted from 0, that has the commodity of number `t`.
+/// The index of the run, from 0, that has the commodity `t`.
 pub(crate) fn run_place(version: Version, n: u32, cut: &StatedCut, t: u32) -> u64
     requires some { 1 ≤ n }
     requires few { n ≤ most_nodes }
@@ -35,7 +35,7 @@ pub(crate) fn run_place(version: Version, n: u32, cut: &StatedCut, t: u32) -> u6
     }
 }
 
-/// How many runs of equal neighbours begin after the first commodity, up to that of number `t`.
+/// The number of runs of equal neighbours that begin after the first commodity, up to commodity `t`.
 fn runs_begun(n: u32, cut: &StatedCut, t: u32) -> u64
     requires some { 1 ≤ n }
     requires within { t < length cut.now.duals }
@@ -51,8 +51,7 @@ fn runs_begun(n: u32, cut: &StatedCut, t: u32) -> u64
     count
 }
 
-/// Tells whether a run begins with the commodity of number `t`: its origin or its dual is another than that of the one
-/// before it.
+/// Whether a run begins with commodity `t`: its origin or its dual differs from that of the commodity before it.
 fn begins_run(n: u32, cut: &StatedCut, t: u32) -> bool
     requires some { 1 ≤ n }
     requires later { 1 ≤ t }

@@ -1,4 +1,4 @@
-//! The duals of a cut, tried side by side.
+//! The duals of a cut, tested in parallel.
 
 ghost use Rattle.std.specs.Prelude.{◌≡◌, ◌*◌, ◌<◌, ◌≤◌, ◌↔◌, length, false, IsTrue, IfSome, All};
 ghost use Rattle.hub_spec.specs.Limits.{most_part};
@@ -13,10 +13,10 @@ use hub_model::Instance;
 use rayon::prelude::*;
 use std::thread::Threads;
 
-/// A thread takes at least so many duals, so that a small cut is tried on one.
+/// A thread tests at least this many duals, so that a small cut is tested by one.
 const DUALS_OF_A_THREAD: usize = 512;
 
-/// The part of the cut, where no condition failed before and all of its duals are feasible with it.
+/// The part of the cut, if no condition failed before and all of its duals are feasible with it.
 pub(crate) fn known_part<R: Threads + Sync>(
     rt: &R,
     checks: &Checks<'_>,
@@ -34,7 +34,7 @@ pub(crate) fn known_part<R: Threads + Sync>(
     }
 }
 
-/// The number of the first commodity whose dual is not feasible. The duals are tried side by side, also those behind it.
+/// The number of the first commodity whose dual is infeasible. The duals are tested in parallel, also those after it.
 pub(crate) fn first_failing<R: Threads + Sync>(
     rt: &R,
     instance: &Instance,
@@ -58,7 +58,7 @@ pub(crate) fn first_failing<R: Threads + Sync>(
         )
 }
 
-/// Tells whether the dual of the commodity of this number is feasible.
+/// Whether the dual of the commodity of this number is feasible.
 fn is_dual_at(instance: &Instance, cut: &StatedCut, t: u32) -> bool
     requires { MayTryDual instance.now cut.now.part cut.now.duals t }
     ensures { IsTrue result ↔ IsDualAt instance.now cut.now.part cut.now.duals t }

@@ -1,4 +1,4 @@
-//! The check of bytes that come piece by piece.
+//! The check of bytes that arrive piece by piece.
 
 ghost use Rattle.std.specs.Prelude.{◌≡◌, ℕ, ◌≤◌, ◌<◌, ◌++◌, List, [], length, take, IfOk, IsOk, OnErr};
 ghost use Rattle.cert_spec.specs.Verdicts.{Why, certificate_limit};
@@ -17,9 +17,9 @@ use cert_scan::{Fault, Scan};
 use hub_model::Instance;
 use std::alloc::{AllocError, Global};
 
-/// The check of a certificate's text for an instance, of which some bytes have come.
+/// The check of a certificate's text for an instance, of which some bytes have arrived.
 ///
-/// No byte of a piece with which there are more than 2^30 is looked at, and none behind it.
+/// A piece with which there are more than 2^30 bytes is not read, and none after it.
 #[derive(Drop)]
 pub struct Stream<'a> {
     scan: Scan,
@@ -30,7 +30,7 @@ pub struct Stream<'a> {
 }
 
 impl<'a> Stream<'a> {
-    /// The check of which no byte has come.
+    /// The check before the first byte.
     pub fn new(alloc: Global, instance: &'a Instance) -> Result<Stream<'a>, AllocError>
         ensures begun { IfOk result (λ stream. HasFed [] stream) }
         ensures instance { IfOk result (λ stream. stream.checks.instance.now ≡ instance.now) }
@@ -43,10 +43,10 @@ impl<'a> Stream<'a> {
         })
     }
 
-    /// Takes the next bytes. Memory is taken for the sums of cuts alone: where there is none, the check is given up.
+    /// Takes the next bytes. It allocates the sums of cuts alone. Where memory runs out, the check is given up.
     ///
-    /// So it is given up only with a piece in which a line ends that begins a cut, and never once the text has told how
-    /// many lines its tree has, nor with a piece that is not looked at.
+    /// So it is given up only with a piece in which a line that begins a cut ends. It is not given up after the line with
+    /// the number of lines of the tree, nor with a piece that is not read.
     pub fn feed(mut self, alloc: Global, piece: &[u8]) -> Result<Stream<'a>, AllocError>
         requires { (bytes : List ℕ) × HasFed bytes self }
         ensures fed { (bytes : List ℕ) → HasFed bytes self.entry → IfOk result (λ stream. HasFed (bytes ++ piece.now) stream) }
@@ -107,7 +107,7 @@ impl<'a> Stream<'a> {
         }
     }
 
-    /// How the check of all bytes that were fed ends, however they were cut into pieces.
+    /// The result of the check of all bytes that were fed, however they were cut into pieces.
     pub fn finish(&self) -> Ending
         requires { (bytes : List ℕ) × HasFed bytes self.now }
         ensures why { (bytes : List ℕ) → HasFed bytes self.now → Why self.now.checks.instance.now bytes (verdict_of result) }

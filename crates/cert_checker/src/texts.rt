@@ -14,8 +14,8 @@ use std::thread::Threads;
 /// The text of a certificate may have at most this many bytes: 2^30.
 pub const MOST_CERTIFICATE_BYTES: usize = 1_073_741_824;
 
-/// What these bytes show of the plan that they name for the instance. They are read as a certificate, whose conditions
-/// are then tried. The only error is want of memory.
+/// What these bytes prove of the plan that they name for the instance. They are parsed as a certificate, whose conditions
+/// are then tested. It fails only where memory runs out.
 pub fn check_text<R: Threads + Sync>(
     rt: &R,
     alloc: Global,

@@ -1,4 +1,4 @@
-//! A certificate that is held, taken by the check of its conditions line by line: the lines of its text, in their order.
+//! The check of a certificate in memory, line by line in the order of its text.
 
 ghost use Rattle.std.specs.Prelude.{◌≡◌, ◌+◌, ◌*◌, ◌≤◌, ◌<◌, ◌^◌, ◌-◌, ◌∷◌, [], length, map, zip, IfSome, IfOk, All, None};
 ghost use Rattle.hub_spec.specs.Limits.{most_nodes, most_denominator};
@@ -26,8 +26,8 @@ use hub_model::{Mix, Plan, TreeLine};
 use std::alloc::{AllocError, Global};
 use std::thread::Threads;
 
-/// Takes all lines of the certificate, which is of the size of the check's instance. The duals of a cut are tried side by
-/// side.
+/// Takes all lines of the certificate, which is of the size of the check's instance. The duals of a cut are tested in
+/// parallel.
 pub(crate) fn take_certificate<R: Threads + Sync>(
     rt: &R,
     alloc: Global,
@@ -144,8 +144,8 @@ fn take_cuts<R: Threads + Sync>(
     Ok(())
 }
 
-/// Takes the lines of a cut. Where no condition failed before, its duals are tried side by side, and where all are
-/// feasible the check need not try them again.
+/// Takes the lines of a cut. If no condition failed before, its duals are tested in parallel. If all are feasible, the
+/// check does not test them again.
 fn take_cut<R: Threads + Sync>(
     rt: &R,
     alloc: Global,
@@ -261,7 +261,7 @@ fn take_marked(
     Ok(())
 }
 
-/// Takes the lines of the tree, with how many they are in front, and the last line of the text.
+/// Takes the number of lines of the tree, these lines, and the last line of the text.
 fn take_tree(alloc: Global, lines: &[TreeLine], checks: &mut Checks<'_>) -> Result<(), AllocError>
     requires few { length lines.now < 2 ^ 32 }
     requires lines { All HasSmallDenominator (map tree_line_of lines.now) }

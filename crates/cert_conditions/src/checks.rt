@@ -1,4 +1,4 @@
-//! The conditions of a certificate, tried as its items come.
+//! The conditions of a certificate, tested as its items arrive.
 
 ghost use Rattle.std.specs.Prelude.{◌≡◌, ◌++◌, ◌⊎◌, List, [], ◌∷◌, flat_map, IfOk, IsOk, OnErr};
 ghost use Rattle.cert_spec.specs.Lines.{Item as LineOf};
@@ -70,8 +70,8 @@ impl<'a> Checks<'a> {
         })
     }
 
-    /// Takes the next item. Only the last one of a line that begins a cut takes memory, room for that cut's sums; where
-    /// there is none, nothing changes.
+    /// Takes the next item. Only the last one of a line that begins a cut allocates: the sums of that cut. Where memory
+    /// runs out, nothing changes.
     ///
     /// The items with this one are as a scan gives them.
     pub fn take(&mut self, alloc: Global, item: Item) -> Result<(), AllocError>
@@ -92,7 +92,7 @@ impl<'a> Checks<'a> {
         self.instance
     }
 
-    /// The first condition that fails of those that the whole lines so far try, with its line.
+    /// The first condition that fails of those that the whole lines so far test, with its line.
     pub fn first_failure(&self) -> Option<(Kind, u64)>
         ensures lines { (lines : List LineOf) (stage : Stage) → Leads want_version lines stage
             → HasTaken (flat_map parts_of lines) self.now
@@ -103,7 +103,7 @@ impl<'a> Checks<'a> {
         self.failure
     }
 
-    /// What was said of the bound, once it was and no condition failed.
+    /// The stated bound, once the text has stated it and no condition has failed.
     pub fn bound(&self) -> u128
         ensures lines { (lines : List LineOf) (stage : Stage) → Leads want_version lines stage
             → HasTaken (flat_map parts_of lines) self.now → AllHold (conditions_from self.now.instance.now at_start lines)
@@ -114,7 +114,7 @@ impl<'a> Checks<'a> {
         self.bound
     }
 
-    /// What was said of the cost, once it was and no condition failed.
+    /// The stated cost, once the text has stated it and no condition has failed.
     pub fn cost(&self) -> u128
         ensures lines { (lines : List LineOf) (stage : Stage) → Leads want_version lines stage
             → HasTaken (flat_map parts_of lines) self.now → AllHold (conditions_from self.now.instance.now at_start lines)

@@ -41,8 +41,7 @@ impl CutList {
         }
     }
 
-    /// Begins a cut over `n` nodes behind the others, with this part and no dual. It takes memory: without, nothing
-    /// changes.
+    /// Appends a cut over `n` nodes, with this part and no dual. It allocates. Where memory runs out, nothing changes.
     pub(crate) fn begin(&mut self, alloc: Global, n: u32, part: u32) -> Result<(), AllocError>
         requires least { 1 ≤ part }
         requires most { part ≤ most_part }
@@ -55,7 +54,7 @@ impl CutList {
         Ok(())
     }
 
-    /// Adds so many equal duals of this price and these values to the last cut.
+    /// Adds `run` equal duals of this price and these values to the last cut.
     pub(crate) fn add(&mut self, run: u32, price: u128, values: &[(u32, u128)])
         requires some { self.old ≢ [] }
         requires few { (last_of self.old).count + run ≤ most_duals }

@@ -1,12 +1,14 @@
-//! What the check answers.
+//! The kinds of a failure.
 
 ghost use Rattle.std.specs.Prelude.{◌≡◌};
 ghost use Rattle.cert_conditions.specs.Kinds.{kind_of, kind_name};
 
-/// What a condition is about. `BoundOverCost` fails where the bound is above the cost, `Number` where the plan has not as
-/// many hubs as are wanted, `Length` where a route is not allowed, `Core` where a marked cut is no Pareto-optimal cut,
-/// `Block` where a commodity has a route, and `Count` where a leaf has no room for the wanted hubs, or a line says so of a
-/// branch that has.
+/// The subject of a condition.
+///
+/// `BoundOverCost` fails where the bound is above the cost, and `Number` where the plan has another number of hubs than
+/// required. `Length` fails where a route is longer than allowed, and `Core` where a marked cut is not Pareto-optimal.
+/// `Block` fails where a commodity has a route. `Count` fails where a leaf has no room for the required hubs, or where a
+/// line claims this of a branch that has room.
 #[derive(Clone, Copy, Debug, PartialEq, Eq)]
 pub enum Kind {
     Size,

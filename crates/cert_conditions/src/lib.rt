@@ -1,13 +1,17 @@
-//! The conditions of a certificate, tried item by item, whether it is read or held.
+//! The conditions of a certificate, tested item by item, whether it is read or held in memory.
 //!
-//! [`Checks`] takes the items that a scan of the text gives, one after another, and tells the first condition that
-//! fails, with its line. It keeps what later conditions speak of: what was said of the cost and the bound, the sums of
-//! the plan, the part and the sums of each whole cut and of the one that stands, the hubs of its mark, and the sums of
-//! the leaf that stands; one dual, what the ways of one proof come to, and one path of the tree. The conditions, line by
-//! line, are defined in the crate `cert_spec`.
+//! [`Checks`] takes the items that a scan of the text gives, one after another. It returns the first condition that
+//! fails, with its line. By weak duality over the tree, a certificate on which none fails proves its bound. The
+//! conditions, line by line, are defined in the crate `cert_spec`.
 //!
-//! A check that holds the certificate gives a line that lists something whole ([`ListLine`]), and for the line of a dual may
-//! tell that it is feasible: it is not tried again then.
+//! `Checks` stores what later conditions need:
+//!
+//! - the stated cost and bound, and the sums of the plan
+//! - the part and the sums of each cut, of which the last may be incomplete, and the hubs of its mark
+//! - one dual, the sums of one proof, one path of the tree, and the sums of one leaf
+//!
+//! A check that holds the certificate in memory gives a line with a list as a whole ([`ListLine`]). For the line of a dual it
+//! may say that the dual is feasible. Such a dual is not tested again.
 #![tactic(auto)]
 
 mod checks;

@@ -1,4 +1,4 @@
-//! Whole lines of a certificate that is held.
+//! Whole lines of a certificate that is held in memory.
 
 ghost use Rattle.std.specs.Prelude.{◌≡◌, ◌≤◌, ◌<◌, [], ◌∷◌, length, IfSome, IfOk};
 ghost use Rattle.hub_spec.specs.Trees.{leaf_of};
@@ -12,7 +12,7 @@ use cut_model::{DualProof, StatedDual};
 use hub_model::Mix;
 use std::alloc::{AllocError, Global};
 
-/// A line that lists something. Nodes count from 0, cuts from 1.
+/// A line with a list. Nodes count from 0, cuts from 1.
 #[derive(Drop)]
 pub enum ListLine<'a> {
     /// The hubs of the plan.
@@ -23,7 +23,7 @@ pub enum ListLine<'a> {
         part: u32,
         hubs: &'a [u32],
     },
-    /// The dual of a run of so many commodities of one origin, of which the first is from `i` to `j`.
+    /// The dual of a run of commodities of one origin. The first of them is from `i` to `j`.
     Dual {
         i: u32,
         j: u32,
@@ -134,7 +134,7 @@ fn leaf_item(denom: u32, mix: &Mix, at: usize, last: bool) -> Item
 }
 
 impl<'a> Checks<'a> {
-    /// Takes the line that this item alone makes. Only one that begins a cut takes memory.
+    /// Takes a line of this single item. Only one that begins a cut allocates.
     pub fn take_alone(&mut self, alloc: Global, item: Item) -> Result<(), AllocError>
         requires { (line : LineOf) × (parts_of line ≡ item ∷ []) × MayTakeLines self.old (line ∷ []) }
         ensures taken { (line : LineOf) → parts_of line ≡ item ∷ []
@@ -144,9 +144,9 @@ impl<'a> Checks<'a> {
         self.take_item(alloc, item, None)
     }
 
-    /// Takes a line that lists something. Only one that begins a cut takes memory.
+    /// Takes a line with a list. Only one that begins a cut allocates.
     ///
-    /// Where a part is known, the line is that of a dual, which is feasible with that part for each commodity of its run.
+    /// Where a part is known, the line is that of a dual. With that part the dual is feasible for each commodity of its run.
     pub fn take_line(
         &mut self,
         alloc: Global,

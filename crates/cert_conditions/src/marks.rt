@@ -19,9 +19,7 @@ use hub_model::Instance;
 use std::alloc::{AllocError, Global};
 use std::marker::Model;
 
-/// The part of a marked cut, the hubs of its mark so far, and the proof that stands.
-///
-/// One mark after another may stand here.
+/// The part of a marked cut, the hubs of its mark so far, and the current proof. It is used for one mark after another.
 #[derive(Drop)]
 pub(crate) struct MarkLine<'a> {
     part: u32,
@@ -47,7 +45,7 @@ impl<'a> Model for MarkLine<'a> {
 }
 
 impl<'a> MarkLine<'a> {
-    /// No hub. The only call that takes memory: room for a hub and a value of each node, and for a proof.
+    /// A mark without hubs. This is the only call that allocates: a hub and a value of each node, and a proof.
     pub(crate) fn new(alloc: Global, instance: &'a Instance) -> Result<MarkLine<'a>, AllocError>
         ensures { IfOk result (λ mark. mark.proof.problem ≡ instance.now) }
     {
@@ -60,7 +58,7 @@ impl<'a> MarkLine<'a> {
         })
     }
 
-    /// Begins the mark of a cut with this part, as yet without hubs.
+    /// Begins the mark of a cut with this part, without hubs.
     pub(crate) fn begin(&mut self, part: u32)
         requires least { 1 ≤ part }
         requires most { part ≤ most_part }
@@ -95,7 +93,7 @@ impl<'a> MarkLine<'a> {
         may_be_marked(instance) && are_candidates(instance, &self.hubs)
     }
 
-    /// Begins the proof of the dual of this commodity, as yet without ways.
+    /// Begins the proof of the dual of this commodity, without paths.
     pub(crate) fn begin_proof(&mut self, commodity: (u32, u32), turns: u32, scale: u32)
         requires from { commodity.0 < self.old.proof.problem.size }
         requires to { commodity.1 < self.old.proof.problem.size }
@@ -108,7 +106,7 @@ impl<'a> MarkLine<'a> {
         self.proof.begin(commodity.0, commodity.1, turns, scale);
     }
 
-    /// Takes a way of the proof: its nodes, and how often it is taken.
+    /// Takes a path of the proof: its nodes, and its multiplicity.
     pub(crate) fn take_way(&mut self, way: (u32, u32, u64))
         requires first { way.0 < self.old.proof.problem.size }
         requires last { way.1 < self.old.proof.problem.size }
@@ -120,7 +118,7 @@ impl<'a> MarkLine<'a> {
         self.proof.take(way.0, way.1, way.2);
     }
 
-    /// Tells whether a dual of this part, with this price and these values, is a Pareto-optimal dual by the proof.
+    /// Whether the proof shows that a dual of this part, with this price and these values, is Pareto-optimal.
     pub(crate) fn proves(&mut self, part: u32, price: u128, values: &[(u32, u128)]) -> bool
         requires any_length { self.old.proof.problem.longest ≡ None }
         requires set { IsCandidateSet self.old.proof.problem self.old.hubs }

@@ -10,8 +10,8 @@ use hub_model::MOST_COST;
 use std::alloc::{AllocError, Global};
 use std::marker::Model;
 
-/// The part of a cut, how many duals of it there are, and the sums of their prices and, by node, of their values, in
-/// 10^-12.
+/// The part of a cut, the number of its duals, the sum of their prices, and by node the sums of their values. Prices and
+/// values are in 10^-12.
 #[derive(Drop)]
 pub(crate) struct CutSums {
     part: u32,
@@ -50,7 +50,7 @@ impl CutSums {
         })
     }
 
-    /// Adds so many equal duals of this price and these values.
+    /// Adds `run` equal duals of this price and these values.
     pub(crate) fn add(&mut self, run: u32, price: u128, values: &[(u32, u128)])
         requires few { self.old.count + run ≤ most_duals }
         requires dual { IsDualInRange (length self.old.loads) (record { a = price; u = values.now }) }
@@ -70,14 +70,14 @@ impl CutSums {
         self.part
     }
 
-    /// How many duals were added.
+    /// The number of duals that were added.
     pub(crate) fn count(&self) -> u32
         ensures { result ≡ self.now.count }
     {
         self.count
     }
 
-    /// Tells whether the total and the loads are at most 10^29 for each unit of the part.
+    /// Whether the total and the loads are at most 10^29 for each unit of the part.
     pub(crate) fn are_within(&self) -> bool
         ensures { IsTrue result ↔ AreWithin self.now }
     {
