@@ -5,6 +5,7 @@ ghost use denote.Param.Send.{IsSync};
 ghost use Rattle.dual_ascent.specs.Shapes.{cells, shape_of, KeepsShape};
 
 use crate::branching::listed;
+use crate::fitting::Fitting;
 use crate::memory::Memory;
 use crate::node::Node;
 use crate::progress::Progress;
@@ -17,7 +18,6 @@ use search_advice::{Advice, Side};
 use std::alloc::{AllocError, Global};
 use std::marker::Model;
 use std::thread::Threads;
-use tight_duals::Fitting;
 
 /// The greatest number of stored states.
 const MOST_MEMORIES: usize = 8;

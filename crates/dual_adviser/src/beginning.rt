@@ -3,13 +3,14 @@
 ghost use Rattle.dual_ascent.specs.Shapes.{KeepsShape};
 
 use crate::adviser::Adviser;
+use crate::fitting::{Manner, Scope};
+use crate::single::fit_single;
 use ascent_lengths::{Workers, at, copy, fill, marked};
 use dual_ascent::{Bench, NO_GAIN};
 use dual_flow::FULL_PRICE;
 use hub_moves::Ground;
 use std::alloc::AllocError;
 use std::thread::Threads;
-use tight_duals::{Manner, Scope, fit_single};
 
 /// In this many first passes at the root the start set gives caps and least penalties.
 const EARLY_PASSES: usize = 3;

@@ -3,11 +3,11 @@
 ghost use Rattle.dual_ascent.specs.Shapes.{KeepsShape};
 
 use crate::adviser::Adviser;
+use crate::fitting::{Manner, Scope};
 use ascent_lengths::Workers;
 use hub_moves::Ground;
 use std::alloc::AllocError;
 use std::thread::Threads;
-use tight_duals::{Manner, Scope};
 
 /// Duals are made tight at a set if its cost is above the bound by less than this part of it, and above the cutoff by
 /// less than `NEAR_BEST` of that.

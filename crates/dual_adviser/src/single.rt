@@ -9,7 +9,11 @@ use std::alloc::{AllocError, Global};
 /// Sets the duals at which the route over each single place is tight: the value of a place is the price less the length
 /// of that route, and the price is the least at which every pair of hubs allows this. Then the bound for one hub is the
 /// cost of the best hub.
-pub fn fit_single(alloc: Global, lengths: &Lengths, state: &mut State) -> Result<(), AllocError>
+pub(crate) fn fit_single(
+    alloc: Global,
+    lengths: &Lengths,
+    state: &mut State,
+) -> Result<(), AllocError>
     ensures { KeepsShape state.old state.new }
 {
     let places = lengths.places;

@@ -18,7 +18,7 @@ const ORIGINS_AT_ONCE: usize = 4;
 
 /// How duals are computed.
 #[derive(Clone, Copy, PartialEq, Eq)]
-pub enum Manner {
+pub(crate) enum Manner {
     /// Makes those duals tight at the set that are not, over the core alone. Returns an estimate of the bound; the
     /// duals stay as they are.
     Guess,
@@ -41,19 +41,19 @@ impl Manner {
 
 /// The input of a fit: the order of the places, the core, and the sides of the branch.
 #[derive(Clone, Copy)]
-pub struct Scope<'a> {
+pub(crate) struct Scope<'a> {
     /// The order in which places get their values.
-    pub order: &'a [Turn],
+    pub(crate) order: &'a [Turn],
     /// The core: the places whose values are up to date.
-    pub core: &'a [usize],
+    pub(crate) core: &'a [usize],
     /// The side of each place in the branch.
-    pub sides: &'a [Side],
+    pub(crate) sides: &'a [Side],
 }
 
 /// The workspace of a fit: the hub set with its routes, the places that are out of date, those that get values, in
 /// order, and the sums of the result.
 #[derive(Drop)]
-pub struct Fitting {
+pub(crate) struct Fitting {
     marks: Vec<bool>,
     room: usize,
     pub(crate) routes: SetRoutes,
@@ -64,7 +64,7 @@ pub struct Fitting {
 
 impl Fitting {
     /// A workspace for this many places.
-    pub fn new(alloc: Global, places: usize) -> Result<Fitting, AllocError> {
+    pub(crate) fn new(alloc: Global, places: usize) -> Result<Fitting, AllocError> {
         Ok(Fitting {
             marks: vec![in alloc; false; places]?,
             room: 0,
@@ -76,7 +76,7 @@ impl Fitting {
     }
 
     /// Sets the hub set. Takes memory only where the set has more hubs than any before.
-    pub fn take(
+    pub(crate) fn take(
         &mut self,
         alloc: Global,
         lengths: &Lengths,
@@ -122,7 +122,7 @@ impl Fitting {
     }
 
     /// Computes the duals in this manner, and returns the bound of the branch by them.
-    pub fn fit<R: Threads + Sync>(
+    pub(crate) fn fit<R: Threads + Sync>(
         &mut self,
         workers: &Workers<'_, R>,
         lengths: &Lengths,

@@ -1,5 +1,5 @@
 use Rattle.std.proofs.Common.{◌≡◌}
-use Rattle.tight_duals.proofs.fitting.Fitting.fit.Given as goal
+use Rattle.dual_adviser.proofs.fitting.Fitting.fit.Given as goal
 
 abbrev pub invariant-loop-number : goal.invariant-loop-number
 invariant-loop-number g l = l.state ≡ l.fn.state
