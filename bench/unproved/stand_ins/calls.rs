@@ -10,7 +10,7 @@
 use crate::branch_tree::{search, search_from};
 use crate::cert_checker::{Older, Stream, read_older};
 use crate::cert_scan::{Scan, Version};
-use crate::closing_search::{Task, optimize_within};
+use crate::ascent_search::{Task, optimize_within};
 use crate::core_cuts::core_cut;
 use crate::cut_pool::Found;
 use crate::dual_adviser::Adviser;

@@ -8,8 +8,8 @@ ghost use Rattle.hub_words.specs.Requests.{IsGap, IsSearch};
 ghost use Rattle.hub_words.specs.Views.{search_seen};
 ghost use Rattle.hub_commands.specs.Solving.{IsClosed};
 
+use ascent_search::{Task, optimize_within};
 use cert_format::Certificate;
-use closing_search::{Task, optimize_within};
 use cut_pool::Found;
 use dual_adviser::Adviser;
 use hub_model::Instance;
