@@ -3,11 +3,11 @@
 ghost use Rattle.dual_ascent.specs.Shapes.{KeepsShape};
 
 use crate::adviser::Adviser;
-use ascent_lengths::{Workers, at, copy, fill, marked};
+use ascent_lengths::{Lengths, Workers, at, copy, fill, marked};
 use dual_ascent::{Bench, NO_GAIN};
 use dual_flow::FULL_PRICE;
 use hub_moves::Ground;
-use std::alloc::AllocError;
+use std::alloc::{AllocError, Global};
 use std::thread::Threads;
 use tight_duals::{Manner, Scope, fit_single};
 
@@ -177,10 +177,12 @@ impl Adviser {
                 self.node.choose_core(&self.state.sums().loads, REACH);
             }
         }
-        if self.bench.core().places() != self.node.core.as_slice() {
-            self.bench = Bench::new(workers.alloc, &self.lengths, &self.node.core)?;
-        }
-        Ok(())
+        renew(
+            workers.alloc,
+            &self.lengths,
+            &self.node.core,
+            &mut self.bench,
+        )
     }
 
     /// Puts the values of the places outside the core right.
@@ -209,4 +211,17 @@ impl Adviser {
         self.node.make_whole();
         Ok(())
     }
+}
+
+/// Makes the bench anew where its core is another than these places.
+fn renew(
+    alloc: Global,
+    lengths: &Lengths,
+    core: &[usize],
+    bench: &mut Bench,
+) -> Result<(), AllocError> {
+    if bench.core().places() != core {
+        *bench = Bench::new(alloc, lengths, core)?;
+    }
+    Ok(())
 }
