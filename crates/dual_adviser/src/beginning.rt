@@ -5,11 +5,11 @@ ghost use Rattle.dual_ascent.specs.Shapes.{KeepsShape};
 use crate::adviser::Adviser;
 use crate::fitting::{Manner, Scope};
 use crate::single::fit_single;
-use ascent_lengths::{Workers, at, copy, fill, marked};
+use ascent_lengths::{Lengths, Workers, at, copy, fill, marked};
 use dual_ascent::{Bench, NO_GAIN};
 use dual_flow::FULL_PRICE;
 use hub_moves::Ground;
-use std::alloc::AllocError;
+use std::alloc::{AllocError, Global};
 use std::thread::Threads;
 
 /// In this many first passes at the root the start set gives caps and least penalties.
@@ -178,10 +178,12 @@ impl Adviser {
                 self.node.choose_core(&self.state.sums().loads, REACH);
             }
         }
-        if self.bench.core().places() != self.node.core.as_slice() {
-            self.bench = Bench::new(workers.alloc, &self.lengths, &self.node.core)?;
-        }
-        Ok(())
+        renew(
+            workers.alloc,
+            &self.lengths,
+            &self.node.core,
+            &mut self.bench,
+        )
     }
 
     /// Completes the duals at the places outside the core.
@@ -210,4 +212,17 @@ impl Adviser {
         self.node.make_whole();
         Ok(())
     }
+}
+
+/// Makes the bench anew where its core is another than these places.
+fn renew(
+    alloc: Global,
+    lengths: &Lengths,
+    core: &[usize],
+    bench: &mut Bench,
+) -> Result<(), AllocError> {
+    if bench.core().places() != core {
+        *bench = Bench::new(alloc, lengths, core)?;
+    }
+    Ok(())
 }
