@@ -2,9 +2,8 @@ use Rattle.std.proofs.Common.{sym, ◌≡◌, ℕ, ◌<◌, length, Fits, ap, su
 use mir.Syntax.{w32}
 use Rattle.std.proofs.lemmas.List.{with_items_is}
 use Rattle.hub_spec.specs.Problem.{Problem}
-use Rattle.dual_lines.specs.Steps.{LegsInSteps, IsStepCost}
 use Rattle.hub_model.proofs.CandidateNodes.{few_places}
-use Rattle.dual_lines.proofs.HeldLines.{range_begun, amounts_begun, steps_begun, candidates_begun, zeros}
+use Rattle.dual_lines.proofs.HeldLines.{range_begun, amounts_begun, units_begun, candidates_begun, zeros}
 use Rattle.dual_lines.proofs.commodity_lines.CommodityLine.new.Goals as goal
 
 fits : (n : ℕ) → n < 201 → Fits w32 n
@@ -19,7 +18,7 @@ overflow_cast-count c =
 pub invariant_of-result-2 : goal.invariant_of-result-2
 invariant_of-result-2 c =
     let p = c.args.instance.now in
-    let same : c.legs.inside.long ≡ p = ap (λ (l : LegsInSteps). l.problem) c.legs.view_is ∙ c.in_ok-legs.ensures in
+    let same = c.in_ok-legs.ensures in
     let count : c.places-count.result ≡ length p.candidates = c.places-count.ensures.value ∙ ap (λ (q : Problem). length q.candidates) (c.in_ok-legs.ensures) in
     let none = c.in_ok-with_capacity.ensures.items in
     let places_are = with_items_is c.in_ok-places.places c.set_places.new.places (omega (arith, c.set_places.auto.places, c.deref_mut.ensures.len)) in
@@ -30,12 +29,9 @@ invariant_of-result-2 c =
       range = rw none (range_begun p.size 0 (omega arith));
       part = omega arith;
       carried = omega (arith, c.flow_between-carried.ensures.value);
-      lengths = c.in_ok-lengths.ensures;
       room = omega (arith, c.in_ok-with_capacity.ensures.capacity, c.size-nodes.ensures.value);
       places = rw places_are c.set_places.ensures;
       amounts = rw none (amounts_begun p.size c.in_ok-vec.field-0.items (omega (arith, c.in_ok-vec.ensures.len, c.in_ok-vec.field-0.ok.0, c.size-nodes.ensures.value)) (zeros c.size-nodes.result c.in_ok-vec.field-0.items (c.in_ok-vec.ensures.items_if_clones_equal (λ y h. h))));
-      cost = subst (λ (n : ℕ). IsStepCost c.flow_between-carried.result n c.step_cost_of-step_cost.result)
-          (c.step.ensures.value ∙ sym (ap (λ (l : LegsInSteps). l.step) c.legs.view_is)) c.step_cost_of-step_cost.ensures;
-      steps = rw none (steps_begun p c.step_cost_of-step_cost.result c.in_ok-vec-2.field-0.items (omega (arith, c.in_ok-vec-2.ensures.len, c.in_ok-vec-2.field-0.ok.0, count)) (λ x _. zeros c.places-count.result c.in_ok-vec-2.field-0.items (c.in_ok-vec-2.ensures.items_if_clones_equal (λ y h. h)) x));
+      units = rw none (units_begun p c.flow_between-carried.result c.in_ok-vec-2.field-0.items (omega (arith, c.in_ok-vec-2.ensures.len, c.in_ok-vec-2.field-0.ok.0, count)) (λ x _. zeros c.places-count.result c.in_ok-vec-2.field-0.items (c.in_ok-vec-2.ensures.items_if_clones_equal (λ y h. h)) x));
       candidates = rw (none, places_are) (candidates_begun p c.set_places.new.places);
     })
