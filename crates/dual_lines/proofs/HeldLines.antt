@@ -1,5 +1,5 @@
 -- What a line holds when a dual begins and when a value is listed.
-use Rattle.std.proofs.Common.{◌≡◌, ◌≢◌, ℕ, zero, suc, ◌*◌, ◌<◌, ◌≤◌, ◌⊎◌, inl, inr, List, [], ◌∷◌, ◌++◌, length, map, set, slice_index, replicate, All, Bool, true, Some, IsTrue, ◌↔◌, ⊎_elim, refl, ap, sym, subst, ◌∙◌, arith}
+use Rattle.std.proofs.Common.{◌≡◌, ◌≢◌, ℕ, ◌*◌, ◌<◌, ◌≤◌, ◌⊎◌, inl, inr, List, [], ◌∷◌, ◌++◌, length, map, set, slice_index, All, Bool, true, Some, IsTrue, ◌↔◌, ⊎_elim, refl, ap, sym, subst, ◌∙◌, arith}
 use Rattle.std.specs.List.Sorted.{IsStrictlyIncreasing}
 use Rattle.std.proofs.lemmas.Bool.{cases_eq}
 use Rattle.std.proofs.lemmas.List.{get_or-set_same, get_or-set_other, map_push, length-map}
@@ -143,13 +143,3 @@ pub few_listed : (n a : ℕ) (u : List (ℕ × ℕ)) (k : ℕ) → IsDualInRange
 few_listed n a u k range node fresh =
     let firsts = All-map (λ m. m < k) (λ (e : ℕ × ℕ). e.0) u fresh in
     omega (arith, node, few_candidates (map (λ (e : ℕ × ℕ). e.0) u) k range.ascend firsts, length-map u (λ (e : ℕ × ℕ). e.0))
-
--- ---- zeros
-
-pub zeros : (n : ℕ) (vs : List ℕ) → vs ≡ replicate n 0 → (k : ℕ) → slice_index vs k ≡ 0
-zeros n vs are k = ap (λ (xs : List ℕ). slice_index xs k) are ∙ zero_at n k
-  where
-    zero_at : (n k : ℕ) → slice_index (replicate n 0) k ≡ 0
-    zero_at zero k = refl
-    zero_at (suc n) zero = refl
-    zero_at (suc n) (suc k) = zero_at n k
