@@ -16,8 +16,8 @@ CRATES = HERE.parents[1] / "crates"
 NAMES = """
     hub_io dec_text fixed_distance hub_model cut_model hub_make token_reader
     instance_cab instance_ap claim_board desks unit_duals leg_duals assign_sub hub_edges dual_cuts pareto_cuts value_cuts
-    cut_pool frac_rows plain_rows core_cuts frac_master leaf_bound hub_fixing p_hub search_advice price_passes search_core
-    search_steps par_separate branch_tree node_rounds closing_search cert_scan cert_format
+    cut_pool frac_rows plain_rows core_cuts frac_master leaf_bound hub_fixing p_hub search_advice ascent_lengths dual_flow dual_ascent
+    hub_moves dual_adviser search_core search_steps par_separate branch_tree node_rounds ascent_search cert_scan cert_format
     dual_lender proof_text cert_lines dual_lines core_lines cert_conditions cert_checker warm_start
 """.split()
 STAND_INS = ["draw_board", "itoa", "memchr", "rayon", "rtrb"]

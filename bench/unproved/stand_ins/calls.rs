@@ -10,14 +10,14 @@
 use crate::branch_tree::{search, search_from};
 use crate::cert_checker::{Older, Stream, read_older};
 use crate::cert_scan::{Scan, Version};
-use crate::closing_search::{Task, optimize_within};
+use crate::ascent_search::{Task, optimize_within};
 use crate::core_cuts::core_cut;
 use crate::cut_pool::Found;
+use crate::dual_adviser::Adviser;
 use crate::dual_lender::DualLender;
 use crate::hub_io::{Failed, OpenGate, Sink};
 use crate::hub_model::{HubNumber, Instance, Nodes, Tail, Terms};
 use crate::node_rounds::search_rounds;
-use crate::price_passes::Adviser;
 use crate::proof_text::{Finding, Workers, write_found};
 use crate::rattle_std::Vec;
 use crate::rattle_std::alloc::Global;

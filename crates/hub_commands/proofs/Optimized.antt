@@ -16,8 +16,8 @@ use Rattle.cert_spec.specs.Text.{SpellsUnmarked}
 use Rattle.cut_pool.specs.declared.found.Found.{Found}
 use Rattle.cut_pool.specs.Findings.{AreRemade, IsProved, IsVersionFor, proof_of, lines_of}
 use Rattle.proof_text.specs.Texts.{found_text}
-use Rattle.closing_search.specs.Gaps.{IsWithinGap}
-use Rattle.closing_search.specs.Progressing.{IsBestBound}
+use Rattle.ascent_search.specs.Gaps.{IsWithinGap}
+use Rattle.ascent_search.specs.Progressing.{IsBestBound}
 use Rattle.hub_words.specs.Requests.{Search}
 use Rattle.hub_commands.specs.declared.status.Status.{Status}
 use Rattle.hub_commands.specs.declared.status.Status.TheVariants.{Done, Stopped}

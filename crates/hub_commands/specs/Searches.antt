@@ -14,7 +14,7 @@ use Rattle.cert_spec.specs.Text.{Spells, SpellsUnmarked}
 use Rattle.search_steps.specs.Kinds.{minimal, core}
 use Rattle.branch_tree.specs.Findings.{found_by, found_again}
 use Rattle.node_rounds.specs.Findings.{found_by_rounds}
-use Rattle.closing_search.specs.Gaps.{IsWithinGap}
+use Rattle.ascent_search.specs.Gaps.{IsWithinGap}
 use Rattle.hub_words.specs.Requests.{node_by_node, by_core_cuts, by_rounds}
 use Rattle.hub_commands.specs.Methods.{Method, Course, cold, warm}
 

@@ -13,8 +13,8 @@ use Rattle.cert_checker.specs.Shows.{verdict_of}
 use Rattle.cert_checker.specs.declared.verdicts.Ending.{Ending}
 use Rattle.cut_pool.specs.Findings.{IsProved, AreRemade, proof_of}
 use Rattle.search_steps.specs.Findings.{IsFound}
-use Rattle.closing_search.specs.Gaps.{IsWithinGap}
-use Rattle.closing_search.specs.Progressing.{IsBestBound}
+use Rattle.ascent_search.specs.Gaps.{IsWithinGap}
+use Rattle.ascent_search.specs.Progressing.{IsBestBound}
 use Rattle.search_core.specs.Starts.{start_seen}
 use Rattle.hub_words.specs.Requests.{node_by_node, by_core_cuts, by_rounds, How, follow, again, freely, older_named, Search, Solving}
 use Rattle.hub_words.specs.Views.{rule_seen}

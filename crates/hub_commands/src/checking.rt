@@ -40,7 +40,7 @@ pub fn check<S: Shelf>(
     check_file(alloc, &instance, certificate, shelf)
 }
 
-/// The ending of a check of the certificate of this file, of which no more than a piece is held at a time.
+/// Checks the certificate of this file, and returns how the check ends. Only a piece of the file is held at a time.
 fn check_file<S: Shelf>(
     alloc: Global,
     instance: &Instance,

@@ -1,4 +1,4 @@
-//! The search that follows no rule: a network of an instance whose bound is proved.
+//! The search of `optimize`: branch and bound driven by dual ascent.
 
 ghost use Rattle.std.specs.Prelude.{◌≡◌, IfSome, IfOk};
 ghost use Rattle.hub_spec.specs.Problem.{IsProblem};
@@ -8,20 +8,20 @@ ghost use Rattle.hub_words.specs.Requests.{IsGap, IsSearch};
 ghost use Rattle.hub_words.specs.Views.{search_seen};
 ghost use Rattle.hub_commands.specs.Solving.{IsClosed};
 
+use ascent_search::{Task, optimize_within};
 use cert_format::Certificate;
-use closing_search::{Task, optimize_within};
 use cut_pool::Found;
+use dual_adviser::Adviser;
 use hub_model::Instance;
 use hub_words::Search;
-use price_passes::Adviser;
 use search_advice::Advice;
 use std::alloc::{AllocError, Global};
 use std::thread::Threads;
 use warm_start::first_values;
 
-/// What the search finds for the instance, where all candidates together are feasible for each commodity. The gap that it
-/// may leave is in thousandths of a per cent of the cost. It begins with what the older certificate says, and trusts
-/// nothing of it: where its hubs are a hub set that is wanted, what is found costs at most what they do.
+/// Returns what `optimize` finds for the instance, where all candidates together are feasible for each commodity. `gap`
+/// is the gap that it may leave, in thousandths of a per cent of the cost. Values and hubs of an older certificate are
+/// a start and are not trusted. The finding costs at most what its hubs cost, where these are a wanted hub set.
 pub fn close<R: Threads + Sync>(
     rt: &R,
     alloc: Global,
@@ -52,7 +52,7 @@ pub fn close<R: Threads + Sync>(
     optimize_within(rt, alloc, &task, adviser)
 }
 
-/// Has the advice begin with the values of the older certificate, and gives the hubs of this.
+/// Starts the heuristic from the values of the older certificate, and returns the hubs of that.
 fn begin_with(
     alloc: Global,
     instance: &Instance,

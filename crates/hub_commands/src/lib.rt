@@ -1,9 +1,10 @@
-//! The commands: from files and options to a verdict (`check`, `report`) or to what a search finds (`solve`, `resolve`,
-//! `optimize`, `demo`).
+//! The commands: from files and options to a verdict (`check`, `report`) or to the finding of a search (`solve`,
+//! `resolve`, `optimize`, `demo`).
 //!
-//! `specs/` in the order of reading: `VerdictStatuses`, `Lines` (the line of a verdict), `Checks` (what `check` and `report` come
-//! to); `Methods` (how a search is asked for), `Searches` (what a search of an instance comes to, by a rule and by none), `Older`
-//! (the older certificate that is named), `Instances` (with the files that are named), `Statuses`.
+//! `specs/` in the order of reading: `VerdictStatuses`, `Lines` (the line of a verdict), `Checks` (the results of
+//! `check` and `report`); `Methods` (the arguments of a search), `Searches` (the results of a search of an instance, by
+//! a rule or by none), `Older` (the older certificate), `Instances` (the same for the files of an instance),
+//! `Statuses`.
 #![tactic(auto)]
 
 mod checking;

@@ -1,4 +1,4 @@
-//! What a search begins with, as it is asked for: how it goes, and the older certificate that is named.
+//! The start of a search: its method, and the older certificate.
 
 ghost use Rattle.std.specs.Prelude.{◌≡◌, Some, IfOk, IfErr};
 ghost use Rattle.hub_io.specs.Outside.{BeginsOnly};
@@ -23,21 +23,21 @@ use std::alloc::{AllocError, Global};
 use std::thread::Threads;
 use warm_start::start_of;
 
-/// What is prepared for a search.
+/// The start of a search.
 #[derive(Drop)]
 pub enum Prepared {
-    /// It follows a rule, and goes so.
+    /// It follows a rule, in this course.
     Ruled(Course),
-    /// It follows no rule, may leave this gap, and begins with what the older certificate says, or with nothing.
+    /// It follows no rule, may leave this gap, and starts from the older certificate, or from nothing.
     Free {
         gap: u32,
         older: Option<Certificate>,
     },
-    /// It has nothing to begin with: the older certificate does not serve, for this reason.
+    /// The older certificate is refused, for this reason.
     Refused(Ending),
 }
 
-/// What is prepared for a search of the instance that is asked for so.
+/// Prepares the start of a search of the instance by this method.
 pub fn prepare<R: Threads + Sync, S: Shelf>(
     rt: &R,
     alloc: Global,
@@ -72,16 +72,16 @@ pub fn prepare<R: Threads + Sync, S: Shelf>(
     }
 }
 
-/// What the bytes of an older certificate are for an instance.
+/// The reading of an older certificate's bytes for an instance.
 #[derive(Drop)]
 enum Reading {
-    /// They spell this certificate, which serves.
+    /// They spell this certificate, which is accepted.
     Serves(Certificate),
-    /// They do not serve, for this reason.
+    /// They are refused, for this reason.
     Refused(Ending),
 }
 
-/// What the bytes of the older certificate's file, which has this name, are for the instance.
+/// Reads the older certificate of this name for the instance.
 fn read_named<R: Threads + Sync, S: Shelf>(
     rt: &R,
     alloc: Global,
@@ -105,8 +105,8 @@ fn read_named<R: Threads + Sync, S: Shelf>(
     }
 }
 
-/// What is said of the bytes. Where the search is to begin with the cuts of the older certificate, its text, its size line and
-/// each cut are tested for this instance, else its text and its size line alone; never its cost, bound, routes and tree.
+/// Tests the bytes of an older certificate. Where the search imports its cuts, the text, the size line and each cut are
+/// tested for this instance, else only text and size line; never cost, bound, routes and tree.
 fn said_of<R: Threads + Sync>(
     rt: &R,
     alloc: Global,
@@ -122,7 +122,7 @@ fn said_of<R: Threads + Sync>(
     }
 }
 
-/// What is said of an older certificate, with the ending that tells it where it does not serve.
+/// The reading that follows from the test, with its ending where the certificate is refused.
 fn reading_of(older: Older) -> Reading
     ensures { IsReadingAs (older_of older) result }
 {

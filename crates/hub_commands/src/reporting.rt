@@ -66,7 +66,7 @@ pub fn report<R: Threads + Sync, S: Shelf>(
     }
 }
 
-/// What the bytes of this file are for the instance.
+/// Reads the bytes of this file for the instance.
 fn read_file<R: Threads + Sync, S: Shelf>(
     rt: &R,
     alloc: Global,
@@ -88,7 +88,7 @@ fn read_file<R: Threads + Sync, S: Shelf>(
     }
 }
 
-/// What these bytes, which are no more than the limit, are for the instance.
+/// Reads these bytes, at most as many as the limit, for the instance.
 fn read_bytes<R: Threads + Sync>(
     rt: &R,
     alloc: Global,

@@ -1,4 +1,4 @@
-//! The searches that follow a rule: what is found for an instance, and for a made-up one, which `demo` asks for.
+//! The searches by a rule, for an instance and for the made-up one of `demo`.
 
 ghost use Rattle.std.specs.Prelude.{◌≡◌, ◌≤◌, IfOk};
 ghost use denote.Param.Send.{IsSync};
@@ -27,16 +27,16 @@ use search_steps::{Coring, Counted, Plain, Rule, Separator, Solo};
 use std::alloc::{AllocError, Global};
 use std::thread::Threads;
 
-/// How a search goes that follows a rule.
+/// The course of a search by a rule.
 #[derive(Drop)]
 pub enum Course {
-    /// By this rule, from its beginning.
+    /// This rule, from its beginning.
     Cold(SearchRule),
-    /// Node by node, from this start.
+    /// Node by node, from this warm start.
     Warm(Start),
 }
 
-/// What the search rule finds for a made-up instance.
+/// Returns what the search rule finds for a made-up instance.
 pub fn demonstrate<R: Threads + Sync, G: Gate>(
     rt: &R,
     alloc: Global,
@@ -59,8 +59,8 @@ pub fn demonstrate<R: Threads + Sync, G: Gate>(
     )
 }
 
-/// What the search rule finds that goes so, where all candidates together are feasible for each commodity: with just as
-/// many hubs as are wanted, if a number is.
+/// Returns what the search rule finds in this course, for exactly p hubs if p is given. All candidates together must be
+/// feasible for each commodity.
 pub fn find<R: Threads + Sync, G: Gate>(
     rt: &R,
     alloc: Global,
@@ -85,8 +85,8 @@ pub fn find<R: Threads + Sync, G: Gate>(
     }
 }
 
-/// What the rule of the search finds: its hub sets are separated by workers side by side, where more than one is asked for and
-/// the instance is large enough for them.
+/// Returns what the rule finds. Several workers share the separation of a hub set, where more than one is allowed and
+/// the instance is large enough.
 fn find_by<R: Threads + Sync, Q: Rule, G: Gate>(
     rt: &R,
     alloc: Global,
@@ -117,8 +117,8 @@ fn find_by<R: Threads + Sync, Q: Rule, G: Gate>(
     find_with(rt, alloc, rule, instance, asked, course, Crew { cut }, gate)
 }
 
-/// What the rule of the search finds, asking this separator, and by Pareto-optimal cuts only where a hub set has none; by
-/// rounds the turns of each round are worked out by as many workers as are asked for.
+/// Returns what the rule finds with this separator. By rounds, several workers share the node evaluations of each
+/// round. With Pareto-optimal cuts a hub set without one gets its minimal cut.
 fn find_with<R: Threads + Sync, Q: Rule, S: Separator + Drop, G: Gate>(
     rt: &R,
     alloc: Global,

@@ -1,4 +1,4 @@
-//! The commands that solve an instance: from its files to what is found for it, as it is asked for.
+//! The commands that solve an instance: from its files to a finding.
 
 ghost use Rattle.std.specs.Prelude.{◌≡◌, ◌⊎◌, IfOk, IfErr};
 ghost use Rattle.hub_io.specs.Outside.{BeginsOnly};
@@ -25,22 +25,23 @@ use hub_words::Solving;
 use std::alloc::{AllocError, Global};
 use std::thread::Threads;
 
-/// What a command that solves comes to.
+/// The result of a command that solves.
 #[derive(Drop)]
 pub enum Solved {
-    /// What the search finds for the instance.
+    /// The finding of the search for the instance.
     Found(Instance, Found),
     /// All candidates together are infeasible for the commodity from `i` to `j`, the first one.
     NoNetwork { i: u32, j: u32 },
-    /// The older certificate does not serve: its text ends so where it is read, or its size line, or for `resolve` one of its
-    /// cuts, does not hold for the instance.
+    /// The older certificate is refused: its text, its size line or, for `resolve`, one of its cuts fails for the
+    /// instance, with this ending.
     Refused(Ending),
 }
 
-/// What is found for the instance that the source names, with the instance, by the rule that is asked for, again from the cuts
-/// and the hubs of an older certificate, or by the search that follows no rule.
+/// Solves the instance that the source names, and returns it with the finding: by the given rule, by a warm start from
+/// an older certificate, or by the search of `optimize`.
 ///
-/// The instance is read first, and where all candidates together are infeasible for a commodity no older certificate is read.
+/// The instance is read first. Where all candidates together are infeasible for a commodity, no older certificate is
+/// read.
 pub fn solve<R: Threads + Sync, S: Shelf, G: Gate>(
     rt: &R,
     alloc: Global,

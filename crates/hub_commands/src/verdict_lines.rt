@@ -11,7 +11,7 @@ use cert_checker::Ending;
 use dec_text::{Piece, put_line};
 use hub_io::{Failed, Sink};
 
-/// The status of a check that ended so.
+/// The status of a check with this ending.
 pub fn status_of_ending(ending: &Ending) -> Status
     ensures { result ≡ verdict_status (verdict_of ending.now) }
 {

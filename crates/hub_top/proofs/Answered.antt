@@ -15,8 +15,8 @@ use Rattle.cert_spec.proofs.OneText.{one_certificate_lem}
 use Rattle.cert_spec.proofs.TextOrFault.{each_is_text_or_fault_lem}
 use Rattle.search_spec.specs.Again.{start_of}
 use Rattle.hub_make.specs.Contents.{made_problem}
-use Rattle.closing_search.specs.Gaps.{IsWithinGap}
-use Rattle.closing_search.proofs.Gaps.{no_gap}
+use Rattle.ascent_search.specs.Gaps.{IsWithinGap}
+use Rattle.ascent_search.proofs.Gaps.{no_gap}
 use Rattle.hub_words.specs.Requests.{Source, SearchRule, How, follow, again, freely, older_named, gap_of, Solving, Making, Search, Request, instance}
 use Rattle.hub_words.specs.Requests.{solve, check, report, make, demo}
 use Rattle.hub_commands.specs.declared.status.Status.{Status}

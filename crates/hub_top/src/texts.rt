@@ -1,4 +1,4 @@
-//! The texts that the product prints.
+//! The texts that the program prints.
 
 ghost use Rattle.std.specs.Prelude.{◌≡◌, [], ◌∷◌, decimal};
 ghost use Rattle.hub_io.specs.Outside.{Puts};
@@ -13,7 +13,7 @@ use hub_io::{Failed, Sink};
 use hub_model::{InstanceFault, Wanted, unsigned};
 use hub_sources::Blamed;
 
-/// The words with which a fault of this file is told.
+/// The word for this file in the line of a fault.
 fn words_of(blamed: Blamed) -> &'static [u8]
     ensures { result.now ≡ blame_words (blame_of blamed) }
 {

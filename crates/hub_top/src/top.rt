@@ -73,7 +73,7 @@ pub fn run<R: Threads + Sync, S: Shelf, O: Sink, E: Sink, G: Gate>(
     write(rt, alloc, intended, out, err)
 }
 
-/// What the words and files come to. It writes nothing.
+/// The outcome of arguments and files. It writes nothing.
 fn settle<R: Threads + Sync, S: Shelf, G: Gate>(
     rt: &R,
     alloc: Global,
@@ -98,7 +98,7 @@ fn settle<R: Threads + Sync, S: Shelf, G: Gate>(
     }
 }
 
-/// What the command comes to, or why it has no answer.
+/// The outcome of the command, or why it has no answer.
 fn answer<R: Threads + Sync, S: Shelf, G: Gate>(
     rt: &R,
     alloc: Global,

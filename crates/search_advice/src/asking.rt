@@ -1,4 +1,4 @@
-//! What a search asks.
+//! The trait of heuristics.
 
 ghost use denote.Param.Send.{IsSync};
 
@@ -6,19 +6,20 @@ use crate::Side;
 use std::alloc::{AllocError, Global};
 use std::thread::Threads;
 
-/// Advice at the nodes of a search, one after another.
+/// A heuristic at the nodes of a search, one after another.
 ///
-/// A search enters a node and asks for passes there as long as they go on. Then it tests the values or branches. What a
-/// branch leads away from is put aside, to come back to it. Who asks relies on no number, and not on a list's length.
+/// A search enters a node and makes ascent passes there, as long as they pay. Then it makes the Benders cut of the
+/// values, or branches. Before it goes into a child it stores the state of the node, and restores it later. It relies
+/// on no returned number, and on no length of a list.
 pub trait Advice {
-    /// The unit of the values, in 10^-6 by unit of flow.
+    /// The unit of the values, in 10^-6 per unit of flow.
     fn unit(&self) -> u64;
 
-    /// Goes to the node with these sides. A guess is made from the hubs that are marked.
+    /// Enters the node with these sides. A first hub set is made from the marked hubs.
     fn enter(&mut self, sides: &[Side], hubs: &[bool]);
 
-    /// Betters the values by one pass, and the guess, where the bound is to come to this. Where memory runs out, the pass
-    /// may have been made in part. Threads may share the handle.
+    /// Makes one ascent pass, and improves the hub set. `wanted` is the cutoff that the bound should reach. Where
+    /// memory runs out, the pass may be incomplete. Threads may share the handle.
     fn better<R: Threads + Sync>(
         &mut self,
         rt: &R,
@@ -27,28 +28,39 @@ pub trait Advice {
     ) -> Result<(), AllocError>
         requires { IsSync R.row };
 
-    /// Tells whether another pass is worth its time, where the bound is to come to this.
+    /// Returns whether another pass is worth its time, for this cutoff.
     fn goes_on(&self, wanted: i128) -> bool;
 
-    /// The bound of the node by the cut of the values, about.
+    /// Ends the passes at the node, and returns whether the values are complete. If not, the bound is below the cutoff
+    /// `wanted`, the node may be branched, and the candidate to branch on is chosen. Threads may share the handle.
+    fn settle<R: Threads + Sync>(
+        &mut self,
+        rt: &R,
+        alloc: Global,
+        wanted: i128,
+        may_branch: bool,
+    ) -> Result<bool, AllocError>
+        requires { IsSync R.row };
+
+    /// An estimate of the bound of the node by the cut of the values.
     fn bound_hint(&self) -> i128;
 
-    /// The values, commodity by commodity: a number for each place, in the unit.
+    /// The values, commodity by commodity, one for each place, in the unit.
     fn values(&self) -> &[u32];
 
-    /// What the guess costs, about.
+    /// An estimate of the cost of the best hub set.
     fn cost_hint(&self) -> i128;
 
-    /// The hubs of the best set that was found at the node, marked by place; none if none was found.
+    /// The best hub set that was found at the node, as marks by place; none are set if none was found.
     fn guess(&self) -> &[bool];
 
-    /// The free candidate to branch on, if any is free.
+    /// The free candidate to branch on, as a place, if any is free.
     fn branch_place(&self) -> Option<usize>;
 
-    /// Puts aside what a node's passes start from, to go back to it. Such calls are nested: what was put aside last is gone
-    /// back to first. Where memory is dear, some may be forgotten.
+    /// Stores the state of the node. Calls are nested: the last state is restored first. Some may be dropped to save
+    /// memory.
     fn put_aside(&mut self, alloc: Global) -> Result<(), AllocError>;
 
-    /// Goes back to what was put aside last, unless that was forgotten, and leaves it aside no longer.
+    /// Restores the last state, unless it was dropped, and removes it.
     fn go_back(&mut self);
 }

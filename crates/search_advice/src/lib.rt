@@ -1,9 +1,9 @@
-//! The trait by which `optimize` asks a heuristic for dual values, hub sets and a branching. Nothing is claimed of the
-//! answers.
+//! The trait by which `optimize` asks a heuristic for dual values, hub sets and a branching candidate. Nothing of it is
+//! trusted.
 //!
-//! A search tells its [`Advice`] which node it is at, lets it improve its dual values as long as that pays, and takes from
-//! it what it then makes exact: the cut of the values, the cost of a hub set, a candidate to branch on. Bad advice costs
-//! time alone. Places are candidates, counted from 0; costs are in 10^-12.
+//! A search passes its node to [`Advice`], lets it improve its dual values while that pays, and makes the result exact:
+//! the Benders cut of the values, the cost of a hub set. It also takes the candidate to branch on. A bad heuristic
+//! costs time alone. A place is the index of a candidate, from 0; costs are in 10^-12.
 #![tactic(auto)]
 
 mod asking;

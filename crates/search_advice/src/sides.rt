@@ -1,12 +1,12 @@
-//! Where the places of a node are.
+//! The sides of a branch.
 
-/// What a branch says of a place.
+/// The side of a place in a branch.
 #[derive(Clone, Copy, PartialEq, Eq)]
 pub enum Side {
-    /// It may be a hub.
+    /// It is free.
     Free,
-    /// It is a hub.
+    /// It is inside: a hub.
     In,
-    /// It is none.
+    /// It is closed.
     Out,
 }

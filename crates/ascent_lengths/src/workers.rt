@@ -1,0 +1,28 @@
+//! The threads that share the work of a heuristic.
+
+ghost use Rattle.std.specs.Prelude.{◌≤◌};
+
+use std::alloc::Global;
+
+/// The greatest number of workers that share a job.
+pub const MOST_WORKERS: u32 = 64;
+
+/// The workers of a job: how many there are, and what they take memory from.
+#[derive(Drop)]
+pub struct Workers<'a, R> {
+    /// The runtime's handle.
+    pub rt: &'a R,
+    /// The memory.
+    pub alloc: Global,
+    /// How many there are.
+    pub count: u32,
+}
+
+impl<R> Workers<'_, R> {
+    /// The number of workers that share a job in blocks.
+    pub fn many(&self) -> u32
+        ensures { (1 ≤ result) × (result ≤ 64) }
+    {
+        self.count.clamp(1, MOST_WORKERS)
+    }
+}

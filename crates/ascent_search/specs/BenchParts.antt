@@ -1,0 +1,12 @@
+-- What the parts of a bench stand for.
+use Rattle.std.specs.Prelude.{◌≤◌}
+use Rattle.ascent_search.specs.Benches.{BenchState, IsPricingFor}
+use Rattle.ascent_search.specs.declared.bench.Bench.TheInside.{Inside}
+
+abbrev pub state_of : Inside → BenchState
+state_of s = record { problem = s.tables; values = s.pricing.values; loads = s.pricing.loads.items }
+
+-- all parts are of one instance
+pub record AreParts (s : Inside) : Type 0 where
+  pub pricing : IsPricingFor s.tables s.pricing
+  pub sets : s.tables.size ≤ s.sets.room

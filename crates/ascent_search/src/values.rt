@@ -1,0 +1,84 @@
+//! The cut of the heuristic's values, at a branch.
+
+ghost use Rattle.std.specs.Prelude.{◌≡◌, ◌≤◌, length, IsTrue, false, IfOk, OnOk};
+ghost use Rattle.hub_spec.specs.Trees.{IsBranch, HasRoom, cut_at};
+ghost use Rattle.cut_model.specs.ValueRows.{AreValuesFor, value_cut};
+ghost use Rattle.search_spec.specs.Findings.{IsSpent};
+ghost use Rattle.ascent_search.specs.Gaps.{goal_of};
+ghost use Rattle.ascent_search.specs.Progressing.{cuts_of, IsGoing, IsAt, IsDone, IsAdvised};
+ghost use Rattle.ascent_search.specs.SingleCuts.{AreLoads, ClosesBy};
+ghost use Rattle.ascent_search.specs.Walking.{IsWalking, IsSameWalk};
+
+use crate::progress::may_split;
+use crate::walk::Walk;
+use hub_model::Branch;
+use std::alloc::AllocError;
+use std::thread::Threads;
+
+impl Walk<'_> {
+    /// Ends the branch with the leaf on the cut of the values, if it fathoms, or with a stop where two more nodes are
+    /// not allowed. Returns whether it did.
+    pub(crate) fn end_by_values<R: Threads + Sync>(
+        &mut self,
+        rt: &R,
+        values: &[u32],
+        branch: &Branch,
+    ) -> Result<bool, AllocError>
+        requires walking { IsWalking self.old }
+        requires branch { IsBranch self.old.task.now.instance.now branch.now }
+        requires room { HasRoom self.old.task.now.instance.now.wanted branch.now }
+        requires some_free { 1 ≤ length branch.now.free }
+        ensures same { IsSameWalk self.old self.new }
+        ensures advised { IfOk result (λ ended. IsAdvised self.old.task.now branch.now self.old.progress self.new.progress ended) }
+    {
+        let total = self
+            .bench
+            .value_sums(rt, self.alloc, self.task.workers, values)?;
+        let closes = self.sums_close(branch, total)?;
+        if !closes && may_split(self.task, &self.progress) {
+            return Ok(false);
+        }
+        self.end_by_sums(branch, total, closes)?;
+        Ok(true)
+    }
+
+    // Stores the cut of the last values, and ends the branch: with the leaf on that cut, if it fathoms at the cutoff,
+    // else with a stop.
+    fn end_by_sums(&mut self, branch: &Branch, total: u128, closes: bool) -> Result<(), AllocError>
+        requires going { IsGoing self.old.task.now self.old.progress }
+        requires fit { AreValuesFor self.old.task.now.instance.now self.old.bench.values }
+        requires sums { let p = self.old.task.now.instance.now in AreLoads p (value_cut p self.old.bench.values) total self.old.bench.loads }
+        requires branch { IsBranch self.old.task.now.instance.now branch.now }
+        requires room { HasRoom self.old.task.now.instance.now.wanted branch.now }
+        requires some_free { 1 ≤ length branch.now.free }
+        requires closing { let p = self.old.task.now.instance.now in IsTrue closes
+            → ClosesBy p (value_cut p self.old.bench.values) (goal_of self.old.task.now.gap self.old.progress.cost) branch.now }
+        requires spent { closes ≡ false → IsSpent self.old.task.now.nodes self.old.progress.made }
+        ensures same { IsSameWalk self.old self.new }
+        ensures done { OnOk result (IsDone self.old.task.now branch.now self.old.progress self.new.progress) }
+    {
+        let number = self.keep_values(total)?;
+        if closes {
+            self.cut_leaf(branch, number)
+        } else {
+            self.stopped_leaf(branch)
+        }
+    }
+
+    // Stores the cut of the last values, and returns its number.
+    fn keep_values(&mut self, total: u128) -> Result<u64, AllocError>
+        requires going { IsGoing self.old.task.now self.old.progress }
+        requires fit { AreValuesFor self.old.task.now.instance.now self.old.bench.values }
+        requires sums { let p = self.old.task.now.instance.now in AreLoads p (value_cut p self.old.bench.values) total self.old.bench.loads }
+        ensures same { IsSameWalk self.old self.new }
+        ensures at { OnOk result (IsAt self.old.task.now self.old.progress self.new.progress) }
+        ensures least { IfOk result (λ c. 1 ≤ c) }
+        ensures most { IfOk result (λ c. c ≤ length self.new.progress.cuts.cuts) }
+        ensures cut { let p = self.old.task.now.instance.now in
+            IfOk result (λ c. cut_at (cuts_of p self.new.progress) c ≡ value_cut p self.old.bench.values) }
+        ensures cost { OnOk result (self.new.progress.cost ≡ self.old.progress.cost) }
+    {
+        let cut = self.bench.kept_values(self.alloc)?;
+        self.keep(cut, total)
+    }
+}

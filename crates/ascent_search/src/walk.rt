@@ -1,0 +1,39 @@
+//! The walk over the tree: task, workspace and state.
+
+ghost use Rattle.std.specs.Prelude.{◌≡◌, IfOk};
+
+use crate::bench::Bench;
+use crate::progress::Progress;
+use crate::task::Task;
+use std::alloc::{AllocError, Global};
+
+/// The walk over the tree: its task, the workspace for the instance, and the state so far.
+#[derive(Drop)]
+pub(crate) struct Walk<'a> {
+    pub(crate) alloc: Global,
+    pub(crate) task: &'a Task<'a>,
+    pub(crate) bench: Bench<'a>,
+    pub(crate) progress: Progress,
+}
+
+impl<'a> Walk<'a> {
+    /// A walk that goes on from this state, for values in this unit, in 10^-6 per unit of flow.
+    pub(crate) fn new(
+        alloc: Global,
+        task: &'a Task<'a>,
+        unit: u64,
+        progress: Progress,
+    ) -> Result<Walk<'a>, AllocError>
+        ensures task { IfOk result (λ w. w.task.now ≡ task.now) }
+        ensures bench { IfOk result (λ w. w.bench.problem ≡ task.now.instance.now) }
+        ensures progress { IfOk result (λ w. w.progress ≡ progress) }
+    {
+        let bench = Bench::new(alloc, task.instance, unit)?;
+        Ok(Walk {
+            alloc,
+            task,
+            bench,
+            progress,
+        })
+    }
+}

@@ -1,5 +1,0 @@
-use Rattle.closing_search.proofs.BranchEnds.{all_candidates}
-use Rattle.closing_search.proofs.laws.all_candidates_serve.Goals as goal
-
-pub returns : goal.returns
-returns c = all_candidates

@@ -1,8 +1,0 @@
-use Rattle.leaf_bound.specs.Weighing.{most_bound, IsWithin}
-use Rattle.closing_search.specs.Progressing.{cuts_of}
-use Rattle.closing_search.specs.SingleCuts.{IsChoice}
-use Rattle.closing_search.proofs.leaves.best_choice.Given as goal
-
-abbrev pub invariant-loop-before : goal.invariant-loop-before
-invariant-loop-before l =
-    IsChoice l.task.instance.now (cuts_of l.task.instance.now l.progress) l.branch l.best × IsWithin most_bound l.best.bound

@@ -1,0 +1,228 @@
+//! The start of a node, and what precedes each pass.
+
+ghost use Rattle.dual_ascent.specs.Shapes.{KeepsShape};
+
+use crate::adviser::Adviser;
+use crate::fitting::{Manner, Scope};
+use crate::single::fit_single;
+use ascent_lengths::{Lengths, Workers, at, copy, fill, marked};
+use dual_ascent::{Bench, NO_GAIN};
+use dual_flow::FULL_PRICE;
+use hub_moves::Ground;
+use std::alloc::{AllocError, Global};
+use std::thread::Threads;
+
+/// In this many first passes at the root the start set gives caps and least penalties.
+const EARLY_PASSES: usize = 3;
+/// At the root the core is chosen again after this many passes, and after the first and the third.
+const ROOT_AGE: usize = 6;
+/// Below the root a core is chosen again after this many passes.
+const MOST_AGE: usize = 12;
+/// How far from a penalty a place of the core may be, in parts of full.
+const REACH: i64 = FULL_PRICE * 3 / 10;
+/// An upper bound on the worth of a hub: all flows over the longest routes (`units`).
+const MOST_HUB_WORTH: i128 = 1 << 60;
+
+/// The root's ramps are wide while the gap is at least this many thousandths.
+const WIDE_GAP: i128 = 20;
+/// Penalties up to `COARSE` count as 0 while the gap is at least `COARSE_GAP` thousandths; the lesser pair is for the
+/// root alone.
+const COARSE_GAP: i128 = 10;
+
+const COARSE: i64 = FULL_PRICE / 32;
+
+const LESS_COARSE_GAP: i128 = 1;
+
+const LESS_COARSE: i64 = FULL_PRICE / 128;
+
+impl Adviser {
+    /// Starts a node: a local search from its start set, unless that was tried before, gives the first hub set. At the
+    /// root caps and ramps follow from it. Returns whether the node is fathomed by that.
+    pub(crate) fn begin<R: Threads + Sync>(
+        &mut self,
+        workers: &Workers<'_, R>,
+    ) -> Result<bool, AllocError>
+        ensures { KeepsShape self.old self.new }
+    {
+        if !self.node.is_root() {
+            if self.sets.tries.note(&self.sets.start) {
+                let _ = self.search_from_start(workers);
+            }
+            return Ok(false);
+        }
+        let ground = Ground {
+            workers: &*workers,
+            lengths: &self.lengths,
+            movable: &self.sets.movable,
+        };
+        self.search.begin(&ground, &mut self.sets.start);
+        let _ = self.sets.tries.note(&self.sets.start);
+        let cost = self.search_from_start(workers);
+        self.begin_root(workers, cost);
+        if self.lengths.wanted == Some(1) && !self.lengths.tables.has_limit() {
+            return self.begin_single(workers, cost);
+        }
+        Ok(false)
+    }
+
+    /// For `--hubs 1` starts from the best duals, and returns whether the bound reaches this cost.
+    fn begin_single<R: Threads + Sync>(
+        &mut self,
+        workers: &Workers<'_, R>,
+        cost: i128,
+    ) -> Result<bool, AllocError>
+        ensures { KeepsShape self.old self.new }
+    {
+        fit_single(workers.alloc, &self.lengths, &mut self.state)?;
+        let bound = self.bound();
+        if bound >= cost {
+            self.progress.note(bound, NO_GAIN);
+            return Ok(true);
+        }
+        self.begin_with(&[]);
+        Ok(false)
+    }
+
+    /// Improves the start set, and returns its cost.
+    fn search_from_start<R: Threads + Sync>(&mut self, workers: &Workers<'_, R>) -> i128
+        ensures { KeepsShape self.old self.new }
+    {
+        let ground = Ground {
+            workers: &*workers,
+            lengths: &self.lengths,
+            movable: &self.sets.movable,
+        };
+        let cost = self.search.improve(&ground, &self.sets.start);
+        self.sets.offer(&self.lengths, self.search.marks(), cost);
+        copy(self.search.marks(), &mut self.sets.start);
+        cost
+    }
+
+    /// Starts the root with ramps and caps from the start set, of this cost.
+    fn begin_root<R: Threads + Sync>(&mut self, workers: &Workers<'_, R>, cost: i128)
+        ensures { KeepsShape self.old self.new }
+    {
+        let unit = self.lengths.worth().max(1);
+        self.search.set_caps(&self.lengths, &mut self.node.caps);
+        if self.lengths.wanted.is_some() {
+            let ground = Ground {
+                workers: &*workers,
+                lengths: &self.lengths,
+                movable: &self.sets.movable,
+            };
+            let worth = self.search.hub_worth(&ground, cost) / unit;
+            self.node.hub_worth = worth.clamp(0 - MOST_HUB_WORTH, MOST_HUB_WORTH) as i64;
+            for (k, price) in self.node.prices.iter_mut().enumerate() {
+                *price = if at(&self.sets.start, k) {
+                    FULL_PRICE
+                } else {
+                    0
+                };
+            }
+        } else if marked(&self.sets.start) == 1 {
+            let most = self.search.most_saved(&self.lengths) / unit;
+            self.node.most_saved = most.clamp(FULL_PRICE as i128, MOST_HUB_WORTH) as i64;
+        }
+    }
+
+    /// Sets core, ramps and caps of the next pass, for this cutoff.
+    pub(crate) fn prepare<R: Threads + Sync>(
+        &mut self,
+        workers: &Workers<'_, R>,
+        wanted: i128,
+    ) -> Result<(), AllocError>
+        ensures { KeepsShape self.old self.new }
+    {
+        let passes = self.progress.passes();
+        let scale = self.scale(wanted);
+        let gap = self.progress.gap(wanted, scale);
+        self.node.is_wide = self.node.is_wide && gap >= WIDE_GAP;
+        self.node.coarse = if gap >= COARSE_GAP {
+            COARSE
+        } else if gap >= LESS_COARSE_GAP && self.progress.is_root {
+            LESS_COARSE
+        } else {
+            0
+        };
+        self.node.little = self.progress.little(self.lengths.flowing);
+        self.node.set_ramps(&self.lengths, None);
+        self.choose_core(workers, wanted)?;
+        if self.progress.is_root && passes < EARLY_PASSES {
+            self.node.set_ramps(&self.lengths, Some(&self.sets.start));
+        }
+        if !self.progress.is_root || passes == EARLY_PASSES {
+            fill(&mut self.node.caps, self.lengths.most_price());
+        }
+        Ok(())
+    }
+
+    /// Chooses the core again where that is due, or where another place has a penalty.
+    fn choose_core<R: Threads + Sync>(
+        &mut self,
+        workers: &Workers<'_, R>,
+        wanted: i128,
+    ) -> Result<(), AllocError>
+        ensures { KeepsShape self.old self.new }
+    {
+        let passes = self.progress.passes();
+        let is_due = if self.progress.is_root {
+            passes == 1 || passes % ROOT_AGE == EARLY_PASSES
+        } else {
+            self.node.is_whole() || self.node.age >= MOST_AGE
+        };
+        self.node.age = self.node.age.saturating_add(1);
+        if is_due || self.node.wants_others(&self.state.sums().loads) {
+            self.complete(workers)?;
+            self.node.age = 1;
+            if self.scale(wanted) >= wanted {
+                self.node.choose_core(&self.state.sums().loads, REACH);
+            }
+        }
+        renew(
+            workers.alloc,
+            &self.lengths,
+            &self.node.core,
+            &mut self.bench,
+        )
+    }
+
+    /// Completes the duals at the places outside the core.
+    pub(crate) fn complete<R: Threads + Sync>(
+        &mut self,
+        workers: &Workers<'_, R>,
+    ) -> Result<(), AllocError>
+        ensures { KeepsShape self.old self.new }
+    {
+        if self.node.is_whole() {
+            return Ok(());
+        }
+        self.node.sort_by_load(&self.state.sums().loads);
+        let scope = Scope {
+            order: &self.node.order,
+            core: &self.node.core,
+            sides: &self.node.sides,
+        };
+        let _ = self.fitting.fit(
+            workers,
+            &self.lengths,
+            &mut self.state,
+            scope,
+            Manner::Whole,
+        )?;
+        self.node.make_whole();
+        Ok(())
+    }
+}
+
+/// Makes the bench anew where its core is another than these places.
+fn renew(
+    alloc: Global,
+    lengths: &Lengths,
+    core: &[usize],
+    bench: &mut Bench,
+) -> Result<(), AllocError> {
+    if bench.core().places() != core {
+        *bench = Bench::new(alloc, lengths, core)?;
+    }
+    Ok(())
+}

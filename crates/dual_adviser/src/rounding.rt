@@ -1,0 +1,106 @@
+//! Rounding: the hub set that penalties give, to improve, and to make duals tight at.
+
+ghost use Rattle.dual_ascent.specs.Shapes.{KeepsShape};
+
+use crate::adviser::Adviser;
+use crate::fitting::{Manner, Scope};
+use ascent_lengths::Workers;
+use hub_moves::Ground;
+use std::alloc::AllocError;
+use std::thread::Threads;
+
+/// Duals are made tight at a set if its cost is above the bound by less than this part of it, and above the cutoff by
+/// less than `NEAR_BEST` of that.
+const NEAR_BOUND: i128 = 1 << 10;
+
+const NEAR_BEST: i128 = 1 << 7;
+/// And if the guess leaves at most this part of the gap, or `GUESSED_COST` of the cutoff.
+const GUESSED_GAP: i128 = 4;
+
+const GUESSED_COST: i128 = 1 << 17;
+
+impl Adviser {
+    /// Rounds the penalties to a set, improves it by local search, and makes the duals tight at it, if the bound then
+    /// reaches the cutoff.
+    pub(crate) fn round<R: Threads + Sync>(
+        &mut self,
+        workers: &Workers<'_, R>,
+        wanted: i128,
+    ) -> Result<(), AllocError>
+        ensures { KeepsShape self.old self.new }
+    {
+        if !self.node.mark_rounded(&mut self.sets.rounded) {
+            return Ok(());
+        }
+        if self.sets.tries.note(&self.sets.rounded) {
+            self.node.mark_near(&mut self.sets.movable);
+            let ground = Ground {
+                workers: &*workers,
+                lengths: &self.lengths,
+                movable: &self.sets.movable,
+            };
+            let cost = self.search.improve(&ground, &self.sets.rounded);
+            self.sets.offer(&self.lengths, self.search.marks(), cost);
+        }
+        let wanted = wanted.min(self.sets.cost);
+        if self.progress.bound >= wanted {
+            return Ok(());
+        }
+        self.finish(workers, wanted)
+    }
+
+    /// Makes the duals tight at the rounded set, if the bound then reaches the cutoff.
+    fn finish<R: Threads + Sync>(
+        &mut self,
+        workers: &Workers<'_, R>,
+        wanted: i128,
+    ) -> Result<(), AllocError>
+        ensures { KeepsShape self.old self.new }
+    {
+        let bound = self.progress.bound;
+        let cost = self.search.cost(&self.lengths, &self.sets.rounded);
+        let is_near = cost.wrapping_sub(bound) < cost / NEAR_BOUND
+            && cost.wrapping_sub(wanted) < wanted / NEAR_BEST;
+        if !is_near {
+            return Ok(());
+        }
+        self.node.sort_by_load(&self.state.sums().loads);
+        self.fitting
+            .take(workers.alloc, &self.lengths, &self.sets.rounded)?;
+        let scope = Scope {
+            order: &self.node.order,
+            core: &self.node.core,
+            sides: &self.node.sides,
+        };
+        let guess = self.fitting.fit(
+            workers,
+            &self.lengths,
+            &mut self.state,
+            scope,
+            Manner::Guess,
+        )?;
+        let left = wanted.wrapping_sub(guess);
+        if left > wanted.wrapping_sub(bound) / GUESSED_GAP && left > wanted / GUESSED_COST {
+            return Ok(());
+        }
+        let tight = self.fitting.fit(
+            workers,
+            &self.lengths,
+            &mut self.state,
+            scope,
+            Manner::Bound,
+        )?;
+        if tight < wanted {
+            return Ok(());
+        }
+        self.progress.bound = self.fitting.fit(
+            workers,
+            &self.lengths,
+            &mut self.state,
+            scope,
+            Manner::Tight,
+        )?;
+        self.node.make_whole();
+        Ok(())
+    }
+}

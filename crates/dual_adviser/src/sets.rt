@@ -1,0 +1,95 @@
+//! The hub sets of a node: the best one found, and those that local searches started from.
+
+use ascent_lengths::{Lengths, copy, fill, marked};
+use std::alloc::{AllocError, Global};
+
+/// The greatest number of recorded sets.
+const MOST_TRIES: usize = 4096;
+
+/// Hub sets as marks: the best one found at a node, the start set, the last rounded set, and the places that may move.
+/// `fixed` is the fixed cost of the best known set. Costs are in 10^-12.
+#[derive(Drop)]
+pub(crate) struct Sets {
+    pub(crate) best: Vec<bool>,
+    pub(crate) cost: i128,
+    pub(crate) fixed: i128,
+    pub(crate) start: Vec<bool>,
+    pub(crate) rounded: Vec<bool>,
+    pub(crate) movable: Vec<bool>,
+    pub(crate) tries: Tries,
+}
+
+impl Sets {
+    /// No sets, over this many places.
+    pub(crate) fn new(alloc: Global, places: usize) -> Result<Sets, AllocError> {
+        Ok(Sets {
+            best: vec![in alloc; false; places]?,
+            cost: i128::MAX,
+            fixed: 0,
+            start: vec![in alloc; false; places]?,
+            rounded: vec![in alloc; false; places]?,
+            movable: vec![in alloc; false; places]?,
+            tries: Tries {
+                sets: Vec::new(alloc),
+            },
+        })
+    }
+
+    /// Starts a node, where these hubs are the best known.
+    pub(crate) fn begin(&mut self, lengths: &Lengths, hubs: &[bool]) {
+        fill(&mut self.best, false);
+        self.cost = i128::MAX;
+        self.fixed = lengths.fixed_cost_of(hubs);
+    }
+
+    /// Takes the set as the best, if it costs less and has the required number of hubs.
+    pub(crate) fn offer(&mut self, lengths: &Lengths, marks: &[bool], cost: i128) {
+        let fits = match lengths.wanted {
+            None => true,
+            Some(hubs) => marked(marks) == hubs,
+        };
+        if fits && cost < self.cost {
+            self.cost = cost;
+            self.fixed = lengths.fixed_cost_of(marks);
+            copy(marks, &mut self.best);
+        }
+    }
+
+    /// The scale of gaps, for a best known set of this cost: the cost, or eight times its fixed costs, if these are a
+    /// small part of it.
+    pub(crate) fn scale(&self, lengths: &Lengths, cost: i128) -> i128 {
+        if lengths.wanted.is_some() {
+            return cost.max(1);
+        }
+        cost.min(self.fixed.saturating_mul(8))
+            .max(cost >> 30)
+            .max(1)
+    }
+}
+
+/// The sets that local searches started from, each as bits of up to 256 places.
+#[derive(Drop)]
+pub(crate) struct Tries {
+    sets: Vec<[u64; 4]>,
+}
+
+impl Tries {
+    /// Records the marked set, and returns whether it is new. Where memory runs out it is not recorded.
+    pub(crate) fn note(&mut self, marks: &[bool]) -> bool {
+        let mut words = [0u64; 4];
+        for (k, mark) in marks.iter().enumerate() {
+            if *mark && k < 256 {
+                words[k / 64] |= 1 << (k % 64);
+            }
+        }
+        for set in &self.sets {
+            if *set == words {
+                return false;
+            }
+        }
+        if self.sets.len() < MOST_TRIES {
+            let _ = self.sets.push(words);
+        }
+        true
+    }
+}

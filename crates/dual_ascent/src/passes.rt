@@ -1,0 +1,188 @@
+//! One ascent pass: each commodity that takes part makes a step at the penalties of its turn.
+//!
+//! Origins go one after another, those with the most steps first, and a few are under way at a time. Each starts from
+//! the loads that the origins before its window left, and counts its own changes as if some others did the same. So it
+//! makes no difference which of those under way ends first, and workers can do them side by side (`sharing`).
+
+ghost use Rattle.dual_ascent.specs.Shapes.{KeepsShape};
+
+use crate::origins::{Stand, Terms, View};
+use crate::ramps::{NO_RAMP, Ramp};
+use crate::schedule::{NO_ORIGIN, ScheduledOrigin, Window, schedule};
+use crate::seen::Core;
+use crate::sharing::better_together;
+use crate::state::State;
+use crate::sums::Sums;
+use crate::waits::{Gain, NO_GAIN, Quote};
+use ascent_lengths::{Lengths, Workers, add, copy, fill, gather, put, row, row_mut};
+use std::alloc::{AllocError, Global};
+use std::thread::Threads;
+
+/// What a pass reads besides the duals: what all origins share, their order, and how many are under way at a time.
+#[derive(Clone, Copy)]
+pub(crate) struct Pass<'a> {
+    pub(crate) view: View<'a>,
+    pub(crate) origins: &'a [ScheduledOrigin],
+    pub(crate) window: Window,
+}
+
+/// The workspace of a pass by one worker: that of an origin, and a row of changes for each origin under way.
+#[derive(Drop)]
+struct InTurn {
+    stand: Stand,
+    under_way: Vec<i64>,
+}
+
+impl InTurn {
+    /// A workspace for this many nodes and places.
+    fn new(alloc: Global, size: usize, places: usize) -> Result<InTurn, AllocError> {
+        let rows = Window::of(size).origins;
+        Ok(InTurn {
+            stand: Stand::new(alloc, places)?,
+            under_way: vec![in alloc; 0; rows.wrapping_mul(places)]?,
+        })
+    }
+
+    /// Improves the duals of one origin after another, updates the sums, and returns the gain.
+    fn better_all(
+        &mut self,
+        pass: Pass<'_>,
+        quotes: &mut [Quote],
+        values: &mut [u32],
+        sums: &mut Sums,
+    ) -> Gain {
+        let lengths = pass.view.lengths;
+        let count = pass.view.core.count();
+        let rows = pass.window.origins.max(1);
+        fill(&mut self.under_way, 0);
+        let mut all = NO_GAIN;
+        for (place, scheduled) in pass.origins.iter().enumerate() {
+            let i = scheduled.origin;
+            let changes = row_mut(&mut self.under_way, place % rows, count);
+            add(changes, &mut sums.loads);
+            let gain = self.stand.better(
+                pass.view,
+                &sums.loads,
+                i,
+                row_mut(quotes, i, lengths.size),
+                row_mut(values, i, lengths.origin_values()),
+            );
+            copy(self.stand.changes(), changes);
+            sums.total = sums.total.wrapping_add(gain.prices);
+            all.add(gain);
+        }
+        for number in 0..rows {
+            add(row(&self.under_way, number, count), &mut sums.loads);
+        }
+        all
+    }
+}
+
+/// The workspace of passes: the core with its ramps and loads, the order of the origins, and what one worker needs.
+#[derive(Drop)]
+pub struct Bench {
+    core: Core,
+    ramps: Vec<Ramp>,
+    sums: Sums,
+    origins: Vec<ScheduledOrigin>,
+    in_turn: InTurn,
+}
+
+impl Bench {
+    /// A workspace for passes that see these places.
+    pub fn new(alloc: Global, lengths: &Lengths, places: &[usize]) -> Result<Bench, AllocError> {
+        Ok(Bench {
+            core: Core::of(alloc, lengths, places)?,
+            ramps: vec![in alloc; NO_RAMP; places.len()]?,
+            sums: Sums::new(alloc, places.len())?,
+            origins: vec![in alloc; NO_ORIGIN; lengths.size]?,
+            in_turn: InTurn::new(alloc, lengths.size, places.len())?,
+        })
+    }
+
+    /// The core.
+    pub fn core(&self) -> &Core {
+        &self.core
+    }
+
+    /// Copies ramps and sums of the core's places from those of all places.
+    fn begin(&mut self, ramps: &[Ramp], sums: &Sums) {
+        for (ramp, k) in self.ramps.iter_mut().zip(self.core.places()) {
+            *ramp = ramps.get(*k).copied().unwrap_or(NO_RAMP);
+        }
+        self.sums.total = sums.total;
+        gather(&sums.loads, self.core.places(), &mut self.sums.loads);
+    }
+
+    /// Copies the sums back to those of all places.
+    fn end(&self, sums: &mut Sums) {
+        sums.total = self.sums.total;
+        for (load, k) in self.sums.loads.iter().zip(self.core.places()) {
+            put(&mut sums.loads, *k, *load);
+        }
+    }
+}
+
+impl State {
+    /// Makes one ascent pass with at most 64 workers over the places of the core, and returns its gain.
+    ///
+    /// The result is the same for every number of workers. Where there is no memory for several, one makes the pass.
+    pub fn pass<'a, R: Threads + Sync>(
+        &mut self,
+        workers: &Workers<'_, R>,
+        lengths: &'a Lengths,
+        terms: Terms<'a>,
+        bench: &'a mut Bench,
+    ) -> Gain
+        ensures { KeepsShape self.old self.new }
+    {
+        schedule(lengths, &self.quotes, &mut bench.origins);
+        bench.begin(terms.ramps, &self.sums);
+        let window = Window::of(lengths.size);
+        let terms = Terms {
+            ramps: &bench.ramps,
+            caps: terms.caps,
+            little: terms.little,
+            hubs: terms.hubs,
+            extra: terms.extra,
+            coarse: terms.coarse,
+        };
+        let pass = Pass {
+            view: View {
+                lengths,
+                core: &bench.core,
+                terms,
+                copies: window.copies,
+            },
+            origins: &bench.origins,
+            window,
+        };
+        let gain = better_pass(
+            workers,
+            pass,
+            &mut bench.in_turn,
+            &mut self.quotes,
+            &mut self.values,
+            &mut bench.sums,
+        );
+        bench.end(&mut self.sums);
+        gain
+    }
+}
+
+/// Makes the pass by several workers, or by one.
+fn better_pass<R: Threads + Sync>(
+    workers: &Workers<'_, R>,
+    pass: Pass<'_>,
+    in_turn: &mut InTurn,
+    quotes: &mut [Quote],
+    values: &mut [u32],
+    sums: &mut Sums,
+) -> Gain {
+    if workers.count > 1 && pass.window.origins > 1 {
+        if let Ok(gain) = better_together(workers, pass, quotes, values, sums) {
+            return gain;
+        }
+    }
+    in_turn.better_all(pass, quotes, values, sums)
+}

@@ -1,0 +1,287 @@
+//! The duals of all commodities, with their sums.
+
+ghost use Rattle.std.specs.Prelude.{◌≡◌, ◌≤◌, length, IfOk};
+ghost use Rattle.hub_spec.specs.Limits.{most_nodes};
+ghost use Rattle.dual_ascent.specs.Shapes.{cells, KeepsShape};
+
+use crate::origins::Terms;
+use crate::sums::Sums;
+use crate::waits::{LONG_WAIT, NO_QUOTE, NO_WAIT, Quote};
+use ascent_lengths::{Commodity, Lengths, PlaceValues, at, copy, fill, put, row, row_mut};
+use search_advice::Side;
+use std::alloc::{AllocError, Global};
+use std::marker::Model;
+
+/// The duals of all commodities in coarse units: a price with its back-off, and a value for each place. `sums` has the
+/// sums of prices and values, weighted by the flows. Contracts see only its shape.
+#[derive(Drop)]
+pub struct State {
+    pub(crate) size: usize,
+    pub(crate) places: usize,
+    pub(crate) quotes: Vec<Quote>,
+    pub(crate) values: Vec<u32>,
+    pub(crate) sums: Sums,
+}
+
+impl Model for State {
+    ghost use Rattle.std.specs.Prelude.{◌≡◌, ◌*◌, vec_len};
+    ghost use Rattle.dual_ascent.specs.Shapes.{Shape};
+
+    ghost Value = { Shape };
+
+    ghost view = { λ s. record { size = s.size; places = s.places } };
+
+    ghost invariant = { λ s. vec_len s.values ≡ s.size * s.size * s.places };
+}
+
+impl State {
+    /// Duals for this many nodes and places, all 0.
+    pub fn new(alloc: Global, size: usize, places: usize) -> Result<State, AllocError>
+        requires size { size ≤ most_nodes }
+        requires places { places ≤ most_nodes }
+        ensures { IfOk result (λ s. s ≡ record { size = size; places = places }) }
+    {
+        let commodities = size * size;
+        Ok(State {
+            size,
+            places,
+            quotes: vec![in alloc; NO_QUOTE; commodities]?,
+            values: vec![in alloc; 0; commodities * places]?,
+            sums: Sums::new(alloc, places)?,
+        })
+    }
+
+    /// The values, commodity by commodity, one for each place.
+    pub fn values(&self) -> &[u32]
+        ensures { length result.now ≡ cells self.now }
+    {
+        &self.values
+    }
+
+    /// Sets all values to 0.
+    pub fn clear_values(&mut self)
+        ensures { KeepsShape self.old self.new }
+    {
+        fill(&mut self.values, 0);
+    }
+
+    /// Sets the value of a place for the commodity of this index.
+    pub fn put_value(&mut self, commodity: usize, k: usize, value: u32)
+        ensures { KeepsShape self.old self.new }
+    {
+        scatter(&mut self.values, [commodity, self.places], &[k], &[value]);
+    }
+
+    /// The prices and back-offs, commodity by commodity.
+    pub fn quotes(&self) -> &[Quote] {
+        &self.quotes
+    }
+
+    /// The number of places.
+    pub fn places(&self) -> usize
+        ensures { result ≡ self.now.places }
+    {
+        self.places
+    }
+
+    /// The sums of prices and values.
+    pub fn sums(&self) -> &Sums {
+        &self.sums
+    }
+
+    /// Sets the sums.
+    pub fn take_sums(&mut self, sums: &Sums)
+        ensures { KeepsShape self.old self.new }
+    {
+        self.sums.take(sums);
+    }
+
+    /// The bound of a branch with these sides by the Benders cut of these duals, in 10^-12.
+    pub fn bound(&self, lengths: &Lengths, sides: &[Side]) -> i128 {
+        self.sums.bound(lengths, sides)
+    }
+
+    /// The objective that passes increase, by the ramps of these terms, weighted by the flows.
+    pub fn objective(&self, terms: Terms<'_>) -> i128 {
+        self.sums.objective(terms)
+    }
+
+    /// Sets the duals of an origin: a price and a row of values for each destination.
+    pub fn put_origin(&mut self, i: usize, prices: &[u32], values: &[u32])
+        ensures { KeepsShape self.old self.new }
+    {
+        let quotes = row_mut(&mut self.quotes, i, self.size);
+        for (quote, price) in quotes.iter_mut().zip(prices) {
+            quote.price = *price;
+        }
+        copy_into(values, &mut self.values, [i, values.len()]);
+    }
+
+    /// Sets prices and back-offs.
+    pub fn take_quotes(&mut self, quotes: &[Quote])
+        ensures { KeepsShape self.old self.new }
+    {
+        copy(quotes, &mut self.quotes);
+    }
+
+    /// Clears all back-offs.
+    pub fn end_waits(&mut self)
+        ensures { KeepsShape self.old self.new }
+    {
+        for quote in self.quotes.iter_mut() {
+            quote.wait = NO_WAIT;
+        }
+    }
+
+    /// Ends all back-offs; the next of each commodity is about twice as long.
+    pub fn break_off_waits(&mut self)
+        ensures { KeepsShape self.old self.new }
+    {
+        for quote in self.quotes.iter_mut() {
+            quote.wait.break_off();
+        }
+    }
+
+    /// Clears the back-off of each commodity that could gain where a place changes sides.
+    pub fn end_waits_at(&mut self, lengths: &Lengths, found: &mut PlaceValues, turned: Turned)
+        ensures { KeepsShape self.old self.new }
+    {
+        let places = self.places;
+        for (c, quote) in self.quotes.iter_mut().enumerate() {
+            let values = row(&self.values, c, places);
+            if turned.could_gain(lengths, found, [c, quote.price as usize], values) {
+                quote.wait = NO_WAIT;
+            }
+        }
+    }
+
+    /// Leaves all commodities out of the next passes, except those listed that could gain where a place changes sides.
+    pub(crate) fn leave_out_others(
+        &mut self,
+        lengths: &Lengths,
+        found: &mut PlaceValues,
+        listed: &[usize],
+        turned: Turned,
+    )
+        ensures { KeepsShape self.old self.new }
+    {
+        for quote in self.quotes.iter_mut() {
+            quote.wait = LONG_WAIT;
+        }
+        let (places, quotes) = (self.places, &mut self.quotes);
+        for c in listed {
+            let values = row(&self.values, *c, places);
+            if let Some(quote) = quotes.get_mut(*c) {
+                if turned.could_gain(lengths, found, [*c, quote.price as usize], values) {
+                    quote.wait = NO_WAIT;
+                }
+            }
+        }
+    }
+
+    /// Starts from these values, one for each place of each commodity in order, and from the greatest feasible prices.
+    /// Past the end of the list values are 0. None is greater than the longest route.
+    pub fn begin_with(&mut self, lengths: &Lengths, found: &mut PlaceValues, values: &[u32])
+        ensures { KeepsShape self.old self.new }
+    {
+        fill(&mut self.values, 0);
+        copy(values, &mut self.values);
+        limit(&mut self.values, lengths.longest());
+        fill(&mut self.quotes, NO_QUOTE);
+        self.sums.clear();
+        let (size, places) = (self.size.max(1), self.places);
+        let (quotes, sums) = (&mut self.quotes, &mut self.sums);
+        for (c, quote) in quotes.iter_mut().enumerate() {
+            let flow = lengths.flow(c) as i64;
+            if flow > 0 {
+                let values = row(&self.values, c, places);
+                let legs = Commodity::of(&lengths.tables, c / size, c % size);
+                quote.price = found.greatest_price(&legs, values, lengths.most_price());
+                sums.add_dual(flow, quote.price, values);
+            }
+        }
+    }
+
+    /// Gives each merged commodity without flow the values of its reverse.
+    pub fn mirror(&mut self, lengths: &Lengths)
+        ensures { KeepsShape self.old self.new }
+    {
+        let (size, places) = (self.size, self.places);
+        let values = self.values.as_mut_slice();
+        for i in 0..size {
+            for j in 0..size {
+                let (from, to) = (
+                    j.wrapping_mul(size).wrapping_add(i),
+                    i.wrapping_mul(size).wrapping_add(j),
+                );
+                if lengths.flow(to) == 0 && lengths.flow(from) > 0 {
+                    copy_row(values, places, from, to);
+                }
+            }
+        }
+    }
+}
+
+/// Sets the items of these places in a row of a table, given by index and width.
+pub(crate) fn scatter(table: &mut [u32], index: [usize; 2], places: &[usize], items: &[u32]) {
+    let items_of_row = row_mut(table, index[0], index[1]);
+    for (k, item) in places.iter().zip(items) {
+        put(items_of_row, *k, *item);
+    }
+}
+
+/// Copies the items into a row of a table, given by index and width.
+fn copy_into(items: &[u32], table: &mut [u32], index: [usize; 2]) {
+    copy(items, row_mut(table, index[0], index[1]));
+}
+
+/// Copies a row to another one.
+fn copy_row(table: &mut [u32], width: usize, from: usize, to: usize) {
+    let (from, to) = (from.wrapping_mul(width), to.wrapping_mul(width));
+    for k in 0..width {
+        let item = at(table, from.wrapping_add(k));
+        put(table, to.wrapping_add(k), item);
+    }
+}
+
+/// Lowers each item to at most this.
+fn limit(items: &mut [u32], most: u32) {
+    for item in items.iter_mut() {
+        *item = (*item).min(most);
+    }
+}
+
+/// A place that changes sides.
+#[derive(Clone, Copy)]
+pub struct Turned {
+    /// The place.
+    pub place: usize,
+    /// Whether it becomes a hub; else it is closed.
+    pub is_opened: bool,
+}
+
+impl Turned {
+    /// Returns whether the dual of a commodity, given by index and price, could gain: it has a value at the place, or
+    /// the place is closed and some route over it is nearly as short as the values allow.
+    fn could_gain(
+        &self,
+        lengths: &Lengths,
+        found: &mut PlaceValues,
+        commodity: [usize; 2],
+        values: &[u32],
+    ) -> bool {
+        let [c, price] = commodity;
+        if lengths.flow(c) == 0 || at(values, self.place) > 0 || self.is_opened {
+            return lengths.flow(c) > 0 && at(values, self.place) > 0;
+        }
+        let price = ascent_lengths::short(price);
+        let limit = price.saturating_add(price / 64).saturating_add(1);
+        let size = lengths.size.max(1);
+        let legs = Commodity::of(&lengths.tables, c / size, c % size);
+        if !legs.is_near(self.place, limit) {
+            return false;
+        }
+        found.begin_from(&legs, price, values);
+        found.shortest_by(&legs, self.place) < limit
+    }
+}

@@ -1,0 +1,261 @@
+//! Local search over hub sets: opens, closes or swaps hubs while that costs less. For exactly p hubs it only swaps.
+
+use crate::openings::{Move, OpenSet, Opening, Openings};
+use crate::routes::{NO_ROUTE, Route, SetRoutes};
+use ascent_lengths::{FAR, Lengths, Workers, at, copy, fill, put, row, row_mut};
+use std::alloc::{AllocError, Global};
+use std::thread::Threads;
+
+/// The greatest number of rounds of a search.
+const MOST_ROUNDS: usize = 100;
+
+/// The input of a local search: workers, instance, and the places that may be opened or closed.
+#[derive(Drop)]
+pub struct Ground<'a, R> {
+    /// The workers.
+    pub workers: &'a Workers<'a, R>,
+    /// The instance.
+    pub lengths: &'a Lengths,
+    /// The places that may be opened or closed.
+    pub movable: &'a [bool],
+}
+
+/// A local search with its workspace: the set, its routes, the lengths after one of its hubs is closed, and the
+/// workspace of a candidate.
+#[derive(Drop)]
+pub struct LocalSearch {
+    set: OpenSet,
+    shortest: Vec<Route>,
+    opening: Opening,
+}
+
+impl LocalSearch {
+    /// A local search for this many nodes and places.
+    pub fn new(alloc: Global, size: usize, places: usize) -> Result<LocalSearch, AllocError> {
+        let cells = size.wrapping_mul(size);
+        Ok(LocalSearch {
+            set: OpenSet {
+                marks: vec![in alloc; false; places]?,
+                routes: SetRoutes::new(alloc, size, places)?,
+                base: vec![in alloc; FAR; cells]?,
+            },
+            shortest: vec![in alloc; NO_ROUTE; cells]?,
+            opening: Opening::new(alloc, size, places)?,
+        })
+    }
+
+    /// The set that was found last.
+    pub fn marks(&self) -> &[bool] {
+        &self.set.marks
+    }
+
+    /// The cost of the set, in 10^-12. An empty set costs `i128::MAX`.
+    pub fn cost(&mut self, lengths: &Lengths, marks: &[bool]) -> i128 {
+        copy(marks, &mut self.set.marks);
+        self.set_routes(lengths);
+        self.close(lengths, None);
+        self.cost_of_base(lengths, None)
+    }
+
+    /// Improves the set by moves of the movable places, and returns its cost, in 10^-12.
+    pub fn improve<R: Threads + Sync>(&mut self, ground: &Ground<'_, R>, marks: &[bool]) -> i128 {
+        let lengths = ground.lengths;
+        let mut cost = self.cost(lengths, marks);
+        for _ in 0..MOST_ROUNDS {
+            let before = cost;
+            if lengths.wanted.is_none() {
+                cost = self.open_all(ground, cost);
+            }
+            for h in 0..lengths.places {
+                if at(&self.set.marks, h) && at(ground.movable, h) {
+                    cost = self.turn(ground, Some(h), cost);
+                }
+            }
+            if cost >= before {
+                break;
+            }
+        }
+        cost
+    }
+
+    /// Greedy start: replaces the marks by hubs that are opened one by one, each the cheapest to open then. For exactly
+    /// p hubs it opens p of them. Else it goes on while the cost falls, and keeps the marked set if that is cheaper.
+    pub fn begin<R: Threads + Sync>(&mut self, ground: &Ground<'_, R>, marks: &mut [bool]) {
+        let lengths = ground.lengths;
+        let least = self.cost(lengths, marks);
+        fill(&mut self.set.marks, false);
+        self.set_routes(lengths);
+        let Some(hubs) = lengths.wanted else {
+            if self.open_all(ground, i128::MAX) <= least {
+                copy(&self.set.marks, marks);
+            }
+            return;
+        };
+        for _ in 0..hubs {
+            let _ = self.turn(ground, None, i128::MAX);
+        }
+        copy(&self.set.marks, marks);
+    }
+
+    /// The worth of one hub at the set that was found last, of this cost: the mean of the least rise with one hub less
+    /// and the greatest fall with one more, or one of the two where the other is impossible. In 10^-12.
+    pub fn hub_worth<R: Threads + Sync>(&mut self, ground: &Ground<'_, R>, cost: i128) -> i128 {
+        let lengths = ground.lengths;
+        let mut least = i128::MAX;
+        for h in 0..lengths.places {
+            if at(&self.set.marks, h) {
+                self.close(lengths, Some(h));
+                least = least.min(self.cost_of_base(lengths, Some(h)));
+            }
+        }
+        let rise = least.wrapping_sub(cost);
+        self.close(lengths, None);
+        let opened = self.best_move(ground, None, i128::MAX);
+        let fall = cost.wrapping_sub(opened.cost);
+        match (least < i128::MAX, opened.open.is_some()) {
+            (true, true) => rise.wrapping_add(fall) / 2,
+            (true, false) => rise,
+            (false, _) => fall,
+        }
+    }
+
+    /// The greatest fall of the routing cost by one hub more than the set that was found last, in 10^-12.
+    pub fn most_saved(&mut self, lengths: &Lengths) -> i128 {
+        self.close(lengths, None);
+        let routes = self.set.routes_cost(lengths);
+        let openings = Openings {
+            lengths,
+            movable: &[],
+            set: &self.set,
+            closed: None,
+            fixed: 0,
+        };
+        let mut most = 0;
+        for k in 0..lengths.places {
+            most = routes
+                .wrapping_sub(self.opening.routes_cost(&openings, k))
+                .max(most);
+        }
+        most
+    }
+
+    /// Sets the cap of each commodity's price to the greater of its lengths without the first and without the last hub
+    /// of its route over the set that was found last, but at most to the greatest price.
+    pub fn set_caps(&self, lengths: &Lengths, caps: &mut [u32]) {
+        for i in 0..lengths.size {
+            for (j, cap) in row_mut(caps, i, lengths.size).iter_mut().enumerate() {
+                let detours = self.set.routes.detours(&lengths.tables, i, j);
+                let most = detours.without_first.max(detours.without_last);
+                *cap = most.min(lengths.most_price());
+            }
+        }
+    }
+
+    /// Opens hubs while the cost falls, and returns the cost.
+    fn open_all<R: Threads + Sync>(&mut self, ground: &Ground<'_, R>, cost: i128) -> i128 {
+        let mut cost = cost;
+        for _ in 0..ground.lengths.places {
+            let opened = self.turn(ground, None, cost);
+            if opened >= cost {
+                break;
+            }
+            cost = opened;
+        }
+        cost
+    }
+
+    /// Makes the best move that closes this hub, or none, if the cost falls, and returns the cost.
+    fn turn<R: Threads + Sync>(
+        &mut self,
+        ground: &Ground<'_, R>,
+        closed: Option<usize>,
+        cost: i128,
+    ) -> i128 {
+        let lengths = ground.lengths;
+        self.close(lengths, closed);
+        let found = self.best_move(ground, closed, cost);
+        if found.cost < cost {
+            if let Some(h) = closed {
+                put(&mut self.set.marks, h, false);
+            }
+            if let Some(k) = found.open {
+                put(&mut self.set.marks, k, true);
+            }
+            self.set_routes(lengths);
+        }
+        found.cost
+    }
+
+    /// The best move that closes this hub, or none, for a set of this cost.
+    fn best_move<R: Threads + Sync>(
+        &mut self,
+        ground: &Ground<'_, R>,
+        closed: Option<usize>,
+        cost: i128,
+    ) -> Move {
+        let lengths = ground.lengths;
+        let mut best = Move { open: None, cost };
+        if closed.is_some() && lengths.wanted.is_none() {
+            best.cost = cost.min(self.cost_of_base(lengths, closed));
+        }
+        let fixed = self.opening_cost(lengths, closed);
+        let openings = Openings {
+            lengths,
+            movable: ground.movable,
+            set: &self.set,
+            closed,
+            fixed,
+        };
+        openings.best(ground.workers, &mut self.opening, best)
+    }
+
+    /// Computes the shortest routes over the set.
+    fn set_routes(&mut self, lengths: &Lengths) {
+        self.set.routes.take(&lengths.tables, &self.set.marks);
+        for i in 0..lengths.size {
+            let routes = row_mut(&mut self.shortest, i, lengths.size);
+            for j in 0..routes.len() {
+                routes[j] = self.set.routes.shortest(&lengths.tables, i, j);
+            }
+        }
+    }
+
+    /// Sets the lengths to those over the set without this hub.
+    fn close(&mut self, lengths: &Lengths, closed: Option<usize>) {
+        let h = closed.unwrap_or(usize::MAX);
+        for i in 0..lengths.size {
+            let shortest = row(&self.shortest, i, lengths.size);
+            let base = row_mut(&mut self.set.base, i, lengths.size);
+            let count = base.len().min(shortest.len());
+            for j in 0..count {
+                base[j] = if closed.is_some() && shortest[j].uses(h) {
+                    self.set.routes.without(&lengths.tables, i, j, [h, h])
+                } else {
+                    shortest[j].length
+                };
+            }
+        }
+    }
+
+    /// The fixed costs of the set without this hub, in 10^-12.
+    fn opening_cost(&self, lengths: &Lengths, closed: Option<usize>) -> i128 {
+        let all = lengths.fixed_cost_of(&self.set.marks);
+        match closed {
+            Some(h) if at(&self.set.marks, h) => all.wrapping_sub(lengths.fixed_cost(h)),
+            _ => all,
+        }
+    }
+
+    /// The cost of the set without this hub, in 10^-12; `i128::MAX` if no hub is left.
+    fn cost_of_base(&self, lengths: &Lengths, closed: Option<usize>) -> i128 {
+        let mut hubs = self.set.routes.hubs().len();
+        if closed.is_some() {
+            hubs = hubs.saturating_sub(1);
+        }
+        if hubs == 0 {
+            return i128::MAX;
+        }
+        let routes = self.set.routes_cost(lengths);
+        routes.wrapping_add(self.opening_cost(lengths, closed))
+    }
+}
