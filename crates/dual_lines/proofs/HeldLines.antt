@@ -1,5 +1,5 @@
 -- What a line holds when a dual begins and when a value is listed.
-use Rattle.std.proofs.Common.{◌≡◌, ◌≢◌, ℕ, zero, suc, ◌*◌, ◌<◌, ◌≤◌, ◌⊎◌, inl, inr, List, [], ◌∷◌, ◌++◌, length, map, set, slice_index, replicate, All, Bool, true, Some, IsTrue, ◌↔◌, ⊎_elim, refl, ap, sym, subst, ◌∙◌, arith}
+use Rattle.std.proofs.Common.{◌≡◌, ◌≢◌, ℕ, ◌*◌, ◌<◌, ◌≤◌, ◌⊎◌, inl, inr, List, [], ◌∷◌, ◌++◌, length, map, set, slice_index, All, Bool, true, Some, IsTrue, ◌↔◌, ⊎_elim, refl, ap, sym, subst, ◌∙◌, arith}
 use Rattle.std.specs.List.Sorted.{IsStrictlyIncreasing}
 use Rattle.std.proofs.lemmas.Bool.{cases_eq}
 use Rattle.std.proofs.lemmas.List.{get_or-set_same, get_or-set_other, map_push, length-map}
@@ -11,7 +11,7 @@ use Rattle.hub_spec.proofs.Ascending.{ascend_nil, ascend_push}
 use Rattle.hub_spec.proofs.Limits.{few_candidates}
 use Rattle.hub_spec.proofs.ListedValues.{push_other, push_fresh}
 use Rattle.hub_model.specs.CandidateLengths.{candidate_at}
-use Rattle.dual_lines.specs.Steps.{most_steps, AreStepValues}
+use Rattle.dual_lines.specs.Units.{most_unit, AreUnits}
 use Rattle.dual_lines.specs.Places.{ArePlaces, IsPlaceOf, IsWithinListed}
 use Rattle.dual_lines.specs.LineParts.{AreAmounts, HasPlace}
 
@@ -27,11 +27,11 @@ range_begun n a low = record {
 pub amounts_begun : (n : ℕ) (amounts : List ℕ) → length amounts ≡ n → ((k : ℕ) → slice_index amounts k ≡ 0) → AreAmounts n [] amounts
 amounts_begun n amounts long none = record { long = long; each = none }
 
-pub steps_begun : (p : Problem) (w : ℕ) (steps : List ℕ) → length steps ≡ length p.candidates
-    → ((x : ℕ) → x < length steps → slice_index steps x ≡ 0) → AreStepValues p w (value_at []) steps
-steps_begun p w steps long none = record {
+pub units_begun : (p : Problem) (w : ℕ) (units : List ℕ) → length units ≡ length p.candidates
+    → ((x : ℕ) → x < length units → slice_index units x ≡ 0) → AreUnits p w (value_at []) units
+units_begun p w units long none = record {
   long = long;
-  limit = All-from_get_or (λ v. v ≤ most_steps) steps 0 (λ x below. omega (arith, none x below));
+  limit = All-from_get_or (λ v. v ≤ most_unit) units 0 (λ x below. omega (arith, none x below));
   all = λ x below. omega (arith, ap (λ (v : ℕ). w * v) (none x (omega (arith, below, long))));
   one = λ x below. omega (arith, none x (omega (arith, below, long)));
 }
@@ -63,16 +63,16 @@ amounts_listed n u amounts k v node fresh so_far kept = record {
 }
 
 -- a place has what it had, or what is put there
-pub record IsPut (p : Problem) (u : List (ℕ × ℕ)) (k v step : ℕ) (steps after : List ℕ) (x : ℕ) : Type 0 where
-  pub is : ((slice_index after x ≡ step) × (value_at (u ++ (k, v) ∷ []) (candidate_at p x) ≡ v))
-      ⊎ ((slice_index after x ≡ slice_index steps x) × (value_at (u ++ (k, v) ∷ []) (candidate_at p x) ≡ value_at u (candidate_at p x)))
+pub record IsPut (p : Problem) (u : List (ℕ × ℕ)) (k v unit : ℕ) (units after : List ℕ) (x : ℕ) : Type 0 where
+  pub is : ((slice_index after x ≡ unit) × (value_at (u ++ (k, v) ∷ []) (candidate_at p x) ≡ v))
+      ⊎ ((slice_index after x ≡ slice_index units x) × (value_at (u ++ (k, v) ∷ []) (candidate_at p x) ≡ value_at u (candidate_at p x)))
 
-pub is_put : (p : Problem) (places : List ℕ) (u : List (ℕ × ℕ)) (k v step : ℕ) (steps after : List ℕ) (x : ℕ) → ArePlaces p places → k < p.size
-    → All (λ (e : ℕ × ℕ). e.0 < k) u → length steps ≡ length p.candidates
-    → (slice_index places k < length steps → slice_index after (slice_index places k) ≡ step)
-    → ((y : ℕ) → y ≢ slice_index places k → slice_index after y ≡ slice_index steps y) → x < length p.candidates
-    → IsPut p u k v step steps after x
-is_put p places u k v step steps after x are node fresh long here others within = record {
+pub is_put : (p : Problem) (places : List ℕ) (u : List (ℕ × ℕ)) (k v unit : ℕ) (units after : List ℕ) (x : ℕ) → ArePlaces p places → k < p.size
+    → All (λ (e : ℕ × ℕ). e.0 < k) u → length units ≡ length p.candidates
+    → (slice_index places k < length units → slice_index after (slice_index places k) ≡ unit)
+    → ((y : ℕ) → y ≢ slice_index places k → slice_index after y ≡ slice_index units y) → x < length p.candidates
+    → IsPut p u k v unit units after x
+is_put p places u k v unit units after x are node fresh long here others within = record {
   is = ⊎_elim
       (λ (same : x ≡ slice_index places k). inl (
         ap (slice_index after) same ∙ here (omega (arith, same, within, long)),
@@ -86,16 +86,16 @@ is_put p places u k v step steps after x are node fresh long here others within 
       (cases_eq x (slice_index places k));
 }
 
-pub steps_listed : (p : Problem) (w : ℕ) (places : List ℕ) (u : List (ℕ × ℕ)) (k v step : ℕ) (steps after : List ℕ) → ArePlaces p places
-    → k < p.size → All (λ (e : ℕ × ℕ). e.0 < k) u → w * step ≤ v → step ≤ v → step ≤ most_steps
-    → (slice_index places k < length steps → slice_index after (slice_index places k) ≡ step)
-    → ((y : ℕ) → y ≢ slice_index places k → slice_index after y ≡ slice_index steps y) → length after ≡ length steps
-    → AreStepValues p w (value_at u) steps → AreStepValues p w (value_at (u ++ (k, v) ∷ [])) after
-steps_listed p w places u k v step steps after are node fresh all one low here others kept so_far = record {
+pub units_listed : (p : Problem) (w : ℕ) (places : List ℕ) (u : List (ℕ × ℕ)) (k v unit : ℕ) (units after : List ℕ) → ArePlaces p places
+    → k < p.size → All (λ (e : ℕ × ℕ). e.0 < k) u → w * unit ≤ v → unit ≤ v → unit ≤ most_unit
+    → (slice_index places k < length units → slice_index after (slice_index places k) ≡ unit)
+    → ((y : ℕ) → y ≢ slice_index places k → slice_index after y ≡ slice_index units y) → length after ≡ length units
+    → AreUnits p w (value_at u) units → AreUnits p w (value_at (u ++ (k, v) ∷ [])) after
+units_listed p w places u k v unit units after are node fresh all one low here others kept so_far = record {
   long = kept ∙ so_far.long;
-  limit = All-from_get_or (λ v. v ≤ most_steps) after 0 (λ x below.
+  limit = All-from_get_or (λ v. v ≤ most_unit) after 0 (λ x below.
       (let within : x < length p.candidates = omega (arith, below, kept, so_far.long) in
-      let old = All-get_or (λ v. v ≤ most_steps) steps x 0 (omega (arith, below, kept)) so_far.limit in
+      let old = All-get_or (λ v. v ≤ most_unit) units x 0 (omega (arith, below, kept)) so_far.limit in
       ⊎_elim (λ is. omega (arith, is.0, low)) (λ is. omega (arith, is.0, old)) (put x within).is));
   all = λ x within. ⊎_elim
       (λ is. omega (arith, ap (λ (n : ℕ). w * n) is.0, is.1, all))
@@ -107,8 +107,8 @@ steps_listed p w places u k v step steps after are node fresh all one low here o
       (put x within).is;
 }
   where
-    put : (x : ℕ) → x < length p.candidates → IsPut p u k v step steps after x
-    put x within = is_put p places u k v step steps after x are node fresh so_far.long here others within
+    put : (x : ℕ) → x < length p.candidates → IsPut p u k v unit units after x
+    put x within = is_put p places u k v unit units after x are node fresh so_far.long here others within
 
 pub candidates_listed : (P : ℕ × ℕ → Type 0) (u : List (ℕ × ℕ)) (e : ℕ × ℕ) (before placed both : Bool) → (IsTrue before ↔ All P u)
     → (IsTrue placed ↔ P e) → (IsTrue both ↔ (IsTrue before × IsTrue placed)) → (IsTrue both ↔ All P (u ++ e ∷ []))
@@ -130,9 +130,9 @@ pub places_lent : (p : Problem) (places lent : List ℕ) (count : ℕ) → ArePl
 places_lent p places lent count are same all =
     subst (IsPlaceOf count (candidate_at p)) (sym same) (record { place = λ x below. are.place x (omega (arith, below, all)) })
 
-pub steps_lent : (p : Problem) (w : ℕ) (u listed : List (ℕ × ℕ)) (steps lent : List ℕ) (count : ℕ) → AreStepValues p w (value_at u) steps
-    → listed ≡ u → lent ≡ steps → count ≡ length p.candidates → IsWithinListed count (candidate_at p) listed lent
-steps_lent p w u listed steps lent count are same held all =
+pub units_lent : (p : Problem) (w : ℕ) (u listed : List (ℕ × ℕ)) (units lent : List ℕ) (count : ℕ) → AreUnits p w (value_at u) units
+    → listed ≡ u → lent ≡ units → count ≡ length p.candidates → IsWithinListed count (candidate_at p) listed lent
+units_lent p w u listed units lent count are same held all =
     subst (λ es. IsWithinListed count (candidate_at p) es lent) (sym same)
     (subst (IsWithinListed count (candidate_at p) u) (sym held) (record { each = λ x below. are.one x (omega (arith, below, all)) }))
 
@@ -143,13 +143,3 @@ pub few_listed : (n a : ℕ) (u : List (ℕ × ℕ)) (k : ℕ) → IsDualInRange
 few_listed n a u k range node fresh =
     let firsts = All-map (λ m. m < k) (λ (e : ℕ × ℕ). e.0) u fresh in
     omega (arith, node, few_candidates (map (λ (e : ℕ × ℕ). e.0) u) k range.ascend firsts, length-map u (λ (e : ℕ × ℕ). e.0))
-
--- ---- zeros
-
-pub zeros : (n : ℕ) (vs : List ℕ) → vs ≡ replicate n 0 → (k : ℕ) → slice_index vs k ≡ 0
-zeros n vs are k = ap (λ (xs : List ℕ). slice_index xs k) are ∙ zero_at n k
-  where
-    zero_at : (n k : ℕ) → slice_index (replicate n 0) k ≡ 0
-    zero_at zero k = refl
-    zero_at (suc n) zero = refl
-    zero_at (suc n) (suc k) = zero_at n k

@@ -2,7 +2,4 @@ pub mod UnitCovers
 pub mod SetPlaces
 pub mod HeldLines
 pub mod DualByAmounts
-pub mod NearEnds
-pub mod StepTables
-pub mod StepLengths
-pub mod StepsAnew
+pub mod UnitsAnew

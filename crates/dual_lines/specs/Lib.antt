@@ -1,9 +1,5 @@
 pub mod Lines
 pub mod Covers
 pub mod Units
-pub mod Steps
-pub mod Lengths
-pub mod LengthParts
-pub mod StepParts
 pub mod Places
 pub mod LineParts

@@ -7,13 +7,10 @@ ghost use Rattle.hub_spec.specs.Ranges.{IsAmount, IsDualInRange};
 ghost use Rattle.dual_lines.specs.Units.{weighted_flow};
 
 use crate::amounts::Priced;
-use crate::limited::is_covered;
-use crate::places::{clear, put_anew, put_steps, set_places};
-use crate::step_lengths::StepLengths;
-use crate::step_tables::StepLegs;
-use crate::steps::{ListedValues, step_cost_of, value_in_steps};
-use crate::units::inverse_of;
+use crate::places::{clear, put_anew, put_unit, set_places};
+use crate::units::{inverse_of, is_covered, unit_value};
 use hub_model::Instance;
+use leg_duals::CandidateLegs;
 use std::alloc::{AllocError, Global};
 use std::marker::Model;
 
@@ -22,17 +19,15 @@ use std::marker::Model;
 /// One after another may stand here. What the last one listed is taken back in time of its values alone.
 #[derive(Drop)]
 pub(crate) struct CommodityLine<'a> {
-    legs: StepLegs<'a>,
-    lengths: Option<StepLengths<'a>>,
+    legs: CandidateLegs<'a>,
     places: Vec<u32>,
     line: Priced,
     carried: u64,
-    step_cost: u64,
     inverse: u64,
     listed: Vec<(u32, u128)>,
     are_candidates: bool,
     amounts: Vec<u128>,
-    steps: Vec<u32>,
+    units: Vec<u64>,
 }
 
 impl<'a> Model for CommodityLine<'a> {
@@ -42,7 +37,7 @@ impl<'a> Model for CommodityLine<'a> {
     ghost Value = { CommodityDual };
 
     ghost view = { λ s. record {
-      problem = s.legs.problem;
+      problem = s.legs;
       commodity = (s.line.from, s.line.to);
       part = s.line.part;
       dual = held_dual s;
@@ -61,17 +56,14 @@ impl<'a> CommodityLine<'a> {
         ensures { IfOk result (λ d. d
             ≡ record { problem = instance.now; commodity = (0, 0); part = 1; dual = record { a = 0; u = [] } }) }
     {
-        let legs = StepLegs::new(alloc, instance)?;
-        let lengths = StepLengths::of(alloc, instance, legs.long().farthest())?;
+        let legs = CandidateLegs::new(alloc, instance)?;
         let nodes = instance.size() as usize;
         let count = legs.places();
         let mut places = vec![in alloc; count as u32; nodes]?;
         set_places(instance, &mut places);
         let carried = instance.flow_between(0, 0);
-        let step_cost = step_cost_of(carried, legs.step());
         Ok(CommodityLine {
             legs,
-            lengths,
             places,
             line: Priced {
                 from: 0,
@@ -80,12 +72,11 @@ impl<'a> CommodityLine<'a> {
                 price: 0,
             },
             carried,
-            step_cost,
             inverse: 0,
             listed: Vec::with_capacity(alloc, nodes)?,
             are_candidates: true,
             amounts: vec![in alloc; 0; nodes]?,
-            steps: vec![in alloc; 0; count]?,
+            units: vec![in alloc; 0; count]?,
         })
     }
 
@@ -101,7 +92,7 @@ impl<'a> CommodityLine<'a> {
             &self.listed,
             &self.places,
             &mut self.amounts,
-            &mut self.steps,
+            &mut self.units,
         );
         self.listed.clear();
         self.line = Priced {
@@ -111,8 +102,7 @@ impl<'a> CommodityLine<'a> {
             price: a,
         };
         self.carried = carried(&self.legs, i, j, part);
-        self.step_cost = step_cost_of(self.carried, self.legs.step());
-        self.inverse = inverse_of(self.step_cost);
+        self.inverse = inverse_of(self.carried);
         self.are_candidates = true;
     }
 
@@ -127,14 +117,13 @@ impl<'a> CommodityLine<'a> {
         }
         self.line.to = j;
         self.carried = carried(&self.legs, self.line.from, j, self.line.part);
-        self.step_cost = step_cost_of(self.carried, self.legs.step());
-        self.inverse = inverse_of(self.step_cost);
+        self.inverse = inverse_of(self.carried);
         put_anew(
             &self.listed,
             &self.places,
-            self.step_cost,
+            self.carried,
             self.inverse,
-            &mut self.steps,
+            &mut self.units,
         );
     }
 
@@ -148,10 +137,10 @@ impl<'a> CommodityLine<'a> {
           dual = record { a = self.old.dual.a; u = self.old.dual.u ++ (k, u) ∷ [] };
         } }
     {
-        let value = value_in_steps(u, self.step_cost, self.inverse);
+        let value = unit_value(u, self.carried, self.inverse);
         self.listed.push_reserved((k, u));
         self.amounts[k as usize] = u;
-        let placed = put_steps(&self.places, k, value, &mut self.steps);
+        let placed = put_unit(&self.places, k, value, &mut self.units);
         self.are_candidates = self.are_candidates && placed;
     }
 
@@ -160,18 +149,13 @@ impl<'a> CommodityLine<'a> {
     pub(crate) fn holds(&self) -> bool
         ensures { IsTrue result ↔ IsDual self.now.problem self.now.part self.now.commodity self.now.dual }
     {
-        let values = ListedValues {
-            amounts: &self.amounts,
-            steps: &self.steps,
-            step_cost: self.step_cost,
-        };
         self.are_candidates
             && is_covered(
                 &self.legs,
-                self.lengths.as_ref(),
                 self.line,
                 self.carried,
-                &values,
+                &self.amounts,
+                &self.units,
             )
     }
 
@@ -200,11 +184,11 @@ impl<'a> CommodityLine<'a> {
 }
 
 /// What the commodity carries for the part: its flow, as often as the part says.
-fn carried(legs: &StepLegs, i: u32, j: u32, part: u32) -> u64
-    requires from { i < legs.now.problem.size }
-    requires to { j < legs.now.problem.size }
+fn carried(legs: &CandidateLegs, i: u32, j: u32, part: u32) -> u64
+    requires from { i < legs.now.size }
+    requires to { j < legs.now.size }
     requires part { part ≤ most_part }
-    ensures { result ≡ weighted_flow legs.now.problem part (i, j) }
+    ensures { result ≡ weighted_flow legs.now part (i, j) }
 {
-    part as u64 * legs.long().instance().flow_between(i, j)
+    part as u64 * legs.instance().flow_between(i, j)
 }

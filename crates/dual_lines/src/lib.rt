@@ -6,29 +6,19 @@
 //! turns. The instance's legs are those of `leg_duals`, made once; a place is the number of a candidate in their
 //! order, from 0, and `places` writes and clears what a dual lists by place.
 //!
-//! `steps` tests in small numbers, told in steps of one length, with the price rounded up and the values rounded down:
-//! `stepping` chooses the step, `step_tables` are the legs in it. What this does not show to be covered, `units` tests
-//! by unit of flow, visiting only the hubs that collection and the nearest end leave open, and what is left then,
-//! `amounts` decides in the numbers that are listed. A unit of flow counts as often as the part says. Costs are in
-//! 10^-12, lengths by unit of flow in 10^-6.
+//! `units` tests by unit of flow, in 64 bits, with the price rounded up and the values rounded down: for each first hub
+//! that collection and the nearest end leave open it visits all last hubs in one loop, several at a time. What this does
+//! not show to be covered, `amounts` decides in the numbers that are listed. A unit of flow counts as often as the part
+//! says. Costs are in 10^-12, lengths by unit of flow in 10^-6. Only `amounts` passes over routes that are not allowed.
 //!
 //! `stated` makes the last test alone of a dual that a cut states, for threads to call side by side.
-//!
-//! These begin with all routes, and only `amounts` passes over those that are not allowed. Where the length of routes is
-//! limited, `limited` tests in steps the routes within the limit alone, by the distances of `step_lengths`, and then by
-//! `amounts`. Distances and lengths of routes are in 10^-3.
 #![tactic(auto)]
 
 mod amounts;
 mod commodity_lines;
-mod limited;
 mod lines;
 mod places;
 mod stated;
-mod step_lengths;
-mod step_tables;
-mod stepping;
-mod steps;
 mod units;
 
 pub use lines::DualLine;

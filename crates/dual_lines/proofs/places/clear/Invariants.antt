@@ -7,7 +7,7 @@ abbrev pub invariant-loop-entry : goal.invariant-loop-entry
 invariant-loop-entry l = record {
   amounts : (k : ℕ) → get_or l.amounts k 0 ≤ value_at (drop l.entry-index l.listed) k;
   long : length l.amounts ≡ length l.places;
-  places : length l.steps ≡ length l.fn.steps;
-  steps : (node : ℕ → ℕ) → IsPlaceOf (length l.fn.steps) node l.places → IsWithinListed (length l.fn.steps) node l.listed l.fn.steps
-      → IsWithinListed (length l.fn.steps) node (drop l.entry-index l.listed) l.steps;
+  places : length l.units ≡ length l.fn.units;
+  units : (node : ℕ → ℕ) → IsPlaceOf (length l.fn.units) node l.places → IsWithinListed (length l.fn.units) node l.listed l.fn.units
+      → IsWithinListed (length l.fn.units) node (drop l.entry-index l.listed) l.units;
 }

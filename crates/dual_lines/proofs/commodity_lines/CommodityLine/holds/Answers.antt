@@ -8,13 +8,13 @@ use Rattle.dual_lines.proofs.commodity_lines.CommodityLine.holds.Goals as goal
 
 pub is_covered-requires-clause-short : goal.is_covered-requires-clause-short
 is_covered-requires-clause-short c =
-    let p = c.self.inside.legs.problem in
+    let p = c.self.inside.legs in
     subst (All IsAmount) (sym c.deref.ensures.value)
     (amounts_short p.size p.size c.self.inside.line.price c.self.inside.listed.items c.self.inside.amounts.items c.self.invariant.range c.self.invariant.amounts)
 
 pub returns-then-self : goal.returns-then-self
 returns-then-self c =
-    let p = c.self.inside.legs.problem in
+    let p = c.self.inside.legs in
     let line = c.self.inside.line in
     let d : Prices = record { a = line.price; u = c.self.inside.listed.items } in
     subst (λ (v : CommodityDual). IsTrue c.is_covered.result ↔ IsDual v.problem v.part v.commodity v.dual) c.self.view_is
@@ -25,7 +25,7 @@ returns-then-self c =
 
 pub returns-else-self : goal.returns-else-self
 returns-else-self c =
-    let p = c.self.inside.legs.problem in
+    let p = c.self.inside.legs in
     let line = c.self.inside.line in
     subst (λ (v : CommodityDual). IsTrue c.self.inside.are_candidates ↔ IsDual v.problem v.part v.commodity v.dual) c.self.view_is (
       λ yes. absurd (let e : false ≡ true = sym c.if-self.false ∙ yes in cc),

@@ -2,21 +2,20 @@ use Rattle.std.proofs.Common.{◌<◌, ℕ, List, sym, subst, arith}
 use Rattle.std.proofs.lemmas.List.{with_items_is}
 use Rattle.hub_spec.specs.Cuts.{value_at}
 use Rattle.dual_lines.specs.Lines.{CommodityDual}
-use Rattle.dual_lines.specs.Steps.{IsStepCost, AreStepValues}
+use Rattle.dual_lines.specs.Units.{AreUnits}
 use Rattle.dual_lines.proofs.commodity_lines.CommodityLine.turn_to.Goals as goal
 
 pub invariant_of-self : goal.invariant_of-self
 invariant_of-self c =
     let s = c.self.inside in
-    let p = s.legs.problem in
-    let cost = c.step_cost_of-self-inside.result in
-    let steps_are = with_items_is s.steps c.put_anew.new.steps (omega (arith, c.put_anew.auto.steps, c.deref_mut.ensures.len)) in
+    let p = s.legs in
+    let units_are = with_items_is s.units c.put_anew.new.units (omega (arith, c.put_anew.auto.units, c.deref_mut.ensures.len)) in
     let node : c.args.j < p.size = subst (λ (d : CommodityDual). c.args.j < d.problem.size) (sym c.self.view_is) c.requires in
     let u = c.deref.ensures.value in
-    let anew = c.put_anew.ensures p s.step_cost
+    let anew = c.put_anew.ensures p s.carried
     (rw c.deref-2.ensures.value c.self.invariant.places)
     (rw u c.self.invariant.range.ascend)
-    (rw (u, c.deref_mut.ensures.value) c.self.invariant.steps) in
+    (rw (u, c.deref_mut.ensures.value) c.self.invariant.units) in
     record {
       problem = c.self.invariant.problem;
       from = c.self.invariant.from;
@@ -24,11 +23,9 @@ invariant_of-self c =
       range = c.self.invariant.range;
       part = c.self.invariant.part;
       carried = c.carried-self-inside.ensures;
-      cost = subst (λ (n : ℕ). IsStepCost c.carried-self-inside.result n cost) c.step.ensures.value c.step_cost_of-self-inside.ensures;
-      lengths = c.self.invariant.lengths;
       room = c.self.invariant.room;
       places = c.self.invariant.places;
       amounts = c.self.invariant.amounts;
-      steps = rw steps_are (subst (λ (es : List (ℕ × ℕ)). AreStepValues p cost (value_at es) c.put_anew.new.steps) u anew);
+      units = rw units_are (subst (λ (es : List (ℕ × ℕ)). AreUnits p c.carried-self-inside.result (value_at es) c.put_anew.new.units) u anew);
       candidates = c.self.invariant.candidates;
     }

@@ -1,7 +1,7 @@
 use Rattle.std.proofs.Common.{◌↔◌, IsTrue, All, subst}
 use Rattle.hub_spec.specs.Problem.{Problem}
 use Rattle.dual_lines.specs.Covers.{IsCoveredFirst}
-use Rattle.dual_lines.proofs.units.is_covered_by_flow.Goals as goal
+use Rattle.dual_lines.proofs.units.is_covered.Goals as goal
 
 pub returns-in-None : goal.returns-in-None
 returns-in-None c =
