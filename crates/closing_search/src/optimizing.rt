@@ -17,6 +17,7 @@ use crate::walker::Walker;
 use assign_sub::{assign, cost_of_set};
 use cut_pool::{Found, KeptCuts};
 use hub_model::{Branch, HubSet, Instance, Plan};
+use p_hub::first_hubs;
 use search_advice::Advice;
 use std::alloc::{AllocError, Global};
 use std::thread::Threads;
@@ -150,7 +151,8 @@ struct Incumbent {
     cost: u128,
 }
 
-// The hubs that the instance gives, or the first nodes of the task, where they are a hub set that is wanted and cost less.
+// All candidates, or as many of the least as are wanted; or the first nodes of the task, where they are a hub set that is
+// wanted and cost less.
 fn first_incumbent(alloc: Global, task: &Task) -> Result<Incumbent, AllocError>
     requires lacks_none { IsHubSet task.now.instance.now task.now.instance.now.candidates }
     ensures problem { IsProblem task.now.instance.now }
@@ -181,19 +183,6 @@ fn cheaper(task: &Task, own: Incumbent, given: HubSet) -> Incumbent
         };
     }
     own
-}
-
-// The hubs that the instance gives: all candidates, or the first ones, as many as are wanted.
-fn first_hubs(instance: &Instance) -> &[u32]
-    requires lacks_none { IsHubSet instance.now instance.now.candidates }
-    ensures problem { IsProblem instance.now }
-    ensures first { AreFirstHubs instance.now result.now }
-{
-    let candidates = instance.candidates();
-    match instance.wanted() {
-        None => candidates,
-        Some(hubs) => &candidates[..hubs as usize],
-    }
 }
 
 // The incumbent with its least routes, and what no plan costs less than.

@@ -1,24 +1,23 @@
 -- The bound that a node's weights give is the bound in the search's state.
-use Rattle.std.proofs.Common.{◌≡◌, ℕ, ◌*◌, ◌≤◌, ℤ, pos, ◌-ℤ◌, List, length, get_or, All, Option, Some, None, if◌then◌else◌, int_lt, sym, ap, ap₂, subst, ◌∙◌, arith}
+use Rattle.std.proofs.Common.{◌≡◌, ℕ, ◌*◌, ◌≤◌, ℤ, pos, ◌-ℤ◌, List, length, get_or, All, Bool, Option, if◌then◌else◌, int_lt, sym, ap, ap₂, subst, ◌∙◌, arith}
 use Rattle.std.specs.List.{AllZip}
 use Rattle.std.proofs.lemmas.List.{length-map}
 use Rattle.hub_spec.specs.Limits.{most_part}
 use Rattle.hub_spec.specs.Problem.{Problem, IsProblem, fixed_cost}
 use Rattle.hub_spec.specs.Trees.{Branching, leaf_bound, IsBranch}
 use Rattle.leaf_bound.specs.declared.weightings.Weighting as lent
-use Rattle.leaf_bound.specs.Bounds.{bound_of}
 use Rattle.leaf_bound.specs.Numbers.{AreWeightingNumbers, IsBranchWithin, weighting_of}
 use Rattle.leaf_bound.specs.Theorems.{weight_pairs, AreLoadsOf, IsWeightingOf}
-use Rattle.leaf_bound.proofs.LeafWeights.{leaf_has_bound}
 use Rattle.search_spec.specs.States.{State, denominator}
-use Rattle.search_spec.specs.Steps.{bound_at, closes_at, better}
-use Rattle.p_hub.specs.Counted.{counted_of}
-use Rattle.p_hub.proofs.CountedBounds.{leaf_counted}
+use Rattle.search_spec.specs.Steps.{bound_at, closes_at, better, fixings}
+use Rattle.p_hub.specs.Counted.{bound_for}
+use Rattle.p_hub.proofs.CountedBounds.{leaf_for}
 use Rattle.cut_pool.specs.Entries.{Entry, entry_part}
 use Rattle.search_core.proofs.Weightings.{below_size, candidate_within, branch_within}
-use Rattle.search_steps.specs.Pools.{entry_cut, IsPoolOf, pool_cuts, state_by}
-use Rattle.search_steps.specs.Weights.{AreNodeWeights, IsNodeWeighting, pairs_of}
+use Rattle.search_steps.specs.Pools.{entry_cut, IsPoolOf, pool_cuts, state_by, InEachState, InEachStateAt}
+use Rattle.search_steps.specs.Weights.{AreNodeWeights, IsNodeWeighting, pairs_of, sides_as}
 use Rattle.search_steps.proofs.PoolNumbers.{totals_sums, loads_sums, rows_long, parts_least, parts_are, totals_are, loads_zip}
+use Rattle.search_steps.proofs.Sides.{sides_by, sides_are}
 
 -- the weighting has the pool's numbers and the problem's fixed costs, and the weights are a node's
 pub record AreLent (p : Problem) (entries : List Entry) (weights : List ℕ) (m : lent.Weighting) : Type 0 where
@@ -72,37 +71,33 @@ weighting_is p entries weights m lent = record {
   few_weights = omega (arith, ap length lent.is.are_weights, length-map entries (entry_cut p), lent.are_weights.few);
 }
 
--- the bound of a leaf with the weighting's numbers is the bound in each state with these entries
-lent_bound : (p : Problem) (entries : List Entry) (weights : List ℕ) (m : lent.Weighting) (b : Branching) (z : ℤ)
-    → AreLent p entries weights m → leaf_bound p (pool_cuts p entries) m.denom (weight_pairs m.weights.now) b ≡ z
-    → (hubs : List ℕ) (cost made : ℕ) (stop : Option ℕ) → z ≡ bound_at p (state_by p entries hubs cost made stop) b (pairs_of weights)
+-- the bound with the weighting's numbers, by the number of hubs that is wanted, if one is, is that in each state with these entries
+pub lent_for : (wanted : Option ℕ) (p : Problem) (entries : List Entry) (weights : List ℕ) (m : lent.Weighting) (b : Branching) → p.wanted ≡ wanted
+    → AreLent p entries weights m → IsBranch p b
+    → InEachState p entries (λ s. bound_for wanted (weighting_of m) b ≡ bound_at p s b (pairs_of weights))
 unfolding bound_at
-lent_bound p entries weights m b z lent is hubs cost made stop =
-    sym is ∙ ap₂ (λ (d : ℕ) (ws : List ℕ). leaf_bound p (pool_cuts p entries) d (pairs_of ws) b) lent.is.is_denom lent.is.are_weights
-
--- where any number of hubs will do
-pub plain_lent : (p : Problem) (entries : List Entry) (weights : List ℕ) (m : lent.Weighting) (b : Branching) → p.wanted ≡ None
-    → AreLent p entries weights m → IsBranch p b → (hubs : List ℕ) (cost made : ℕ) (stop : Option ℕ)
-    → bound_of (weighting_of m) b ≡ bound_at p (state_by p entries hubs cost made stop) b (pairs_of weights)
-plain_lent p entries weights m b any lent is =
-    lent_bound p entries weights m b (bound_of (weighting_of m) b) lent
-    (leaf_has_bound p (pool_cuts p entries) (weighting_of m) b any (weighting_is p entries weights m lent) (below_size p b lent.problem is))
-
--- where just so many are wanted
-pub counted_lent : (n : ℕ) (p : Problem) (entries : List Entry) (weights : List ℕ) (m : lent.Weighting) (b : Branching) → p.wanted ≡ Some n
-    → AreLent p entries weights m → IsBranch p b → (hubs : List ℕ) (cost made : ℕ) (stop : Option ℕ)
-    → counted_of n (weighting_of m) b ≡ bound_at p (state_by p entries hubs cost made stop) b (pairs_of weights)
-counted_lent n p entries weights m b wanted lent is =
-    lent_bound p entries weights m b (counted_of n (weighting_of m) b) lent
-    (leaf_counted n p (pool_cuts p entries) (weighting_of m) b wanted (weighting_is p entries weights m lent) (below_size p b lent.problem is))
+lent_for wanted p entries weights m b same lent is hubs cost made stop =
+    sym (leaf_for p wanted (pool_cuts p entries) (weighting_of m) b same (weighting_is p entries weights m lent) (below_size p b lent.problem is))
+    ∙ ap₂ (λ (d : ℕ) (ws : List ℕ). leaf_bound p (pool_cuts p entries) d (pairs_of ws) b) lent.is.is_denom lent.is.are_weights
 
 -- the test of the bound against the cost
-pub lent_closes : (p : Problem) (entries : List Entry) (weights : List ℕ) (m : lent.Weighting) (b : Branching) (z : ℤ) (hubs : List ℕ) (cost made : ℕ)
-    (stop : Option ℕ) → AreLent p entries weights m → z ≡ bound_at p (state_by p entries hubs cost made stop) b (pairs_of weights)
-    → int_lt (pos (m.denom * cost) -ℤ pos m.denom) z ≡ closes_at p (state_by p entries hubs cost made stop) b (pairs_of weights)
+abbrev pub closes_for : Option ℕ → lent.Weighting → ℕ → Branching → Bool
+closes_for wanted m cost b = int_lt (pos (m.denom * cost) -ℤ pos m.denom) (bound_for wanted (weighting_of m) b)
+
+pub lent_closes : (wanted : Option ℕ) (p : Problem) (entries : List Entry) (weights : List ℕ) (m : lent.Weighting) (b : Branching) (cost : ℕ)
+    → p.wanted ≡ wanted → AreLent p entries weights m → IsBranch p b
+    → InEachStateAt p entries cost (λ s. closes_for wanted m cost b ≡ closes_at p s b (pairs_of weights))
 unfolding closes_at
-lent_closes p entries weights m b z hubs cost made stop lent is =
-    ap₂ (λ (d : ℕ) (y : ℤ). int_lt (pos (d * cost) -ℤ pos d) y) lent.is.is_denom is
+lent_closes wanted p entries weights m b cost same lent is hubs made stop =
+    ap₂ (λ (d : ℕ) (y : ℤ). int_lt (pos (d * cost) -ℤ pos d) y) lent.is.is_denom (lent_for wanted p entries weights m b same lent is hubs cost made stop)
+
+-- and so the sides of the free nodes
+pub lent_sides : (wanted : Option ℕ) (p : Problem) (entries : List Entry) (weights : List ℕ) (m : lent.Weighting) (b : Branching) (cost : ℕ)
+    → p.wanted ≡ wanted → AreLent p entries weights m → IsBranch p b
+    → InEachStateAt p entries cost (λ s. sides_as (sides_by (closes_for wanted m cost) b) ≡ fixings p s b (pairs_of weights))
+lent_sides wanted p entries weights m b cost same lent is hubs made stop =
+    sides_are p (state_by p entries hubs cost made stop) b (pairs_of weights) (closes_for wanted m cost) is
+    (λ child is_child. lent_closes wanted p entries weights m child cost same lent is_child hubs made stop)
 
 -- the test of a bound against what it has to be above
 pub closes_by_bound : (p : Problem) (s : State) (b : Branching) (w : List (ℕ × ℕ)) (x y : ℤ) → x ≡ (pos (denominator * s.cost) -ℤ pos denominator)
