@@ -1,5 +1,5 @@
 -- The choices of the rule, by the number of hubs that is wanted.
-use Rattle.std.proofs.Common.{◌≡◌, ℕ, ◌+◌, ◌≤◌, List, length, Option, Some, None, ap, sym, subst, ◌∙◌}
+use Rattle.std.proofs.Common.{◌≡◌, ℕ, ◌+◌, ◌≤◌, true, false, nat_eq, List, length, Option, Some, None, ap, sym, subst, ◌∙◌}
 use Rattle.hub_spec.specs.Problem.{Problem, IsProblem}
 use Rattle.hub_spec.specs.Plans.{IsHubSet}
 use Rattle.hub_spec.specs.Trees.{Branching, IsBranch, HasRoom}
@@ -29,11 +29,20 @@ pub pick_is : (p : Problem) (wanted : Option ℕ) (a : Advice) (b : Branching) �
 unfolding rule_parts
 pick_is p wanted a b e = ap (λ (o : Option ℕ). pick_for p o a b) (sym e)
 
--- ---- a branch that goes on
+-- ---- any number of hubs
 
--- where any number of hubs will do, a node is free where no set is left alone
+-- its hubs are left alone where no node is free
+pub decided_alone : (p : Problem) (b : Branching) → p.wanted ≡ None → nat_eq (length b.free) 0 ≡ true → Some b.inside ≡ (parts_of p).only b
+decided_alone p b any e = sym (number.decided_only b e) ∙ only_is p None b any
+
+pub none_alone : (p : Problem) (b : Branching) → p.wanted ≡ None → nat_eq (length b.free) 0 ≡ false → None ≡ (parts_of p).only b
+none_alone p b any e = sym (number.free_left b e) ∙ only_is p None b any
+
+-- and a node is free where no set is left alone
 pub free_without : (p : Problem) (b : Branching) → p.wanted ≡ None → (parts_of p).only b ≡ None → 1 ≤ length b.free
 free_without p b any none = number.free_when b (only_is p None b any ∙ none)
+
+-- ---- a branch that goes on
 
 -- it has room where it has no end
 pub room_when : (p : Problem) (b : Branching) → (parts_of p).barren b ≡ None → HasRoom p.wanted b

@@ -35,7 +35,7 @@ pub trait Rule {
         ensures { (p : Problem) → serves self.now p → result ≡ p.wanted };
 
     /// The leaf of a branch that has no hub set because of its numbers of open and free nodes, if it is one.
-    final fn end(&self, branch: &Branch) -> Option<TreeLine>
+    fn end(&self, branch: &Branch) -> Option<TreeLine>
         ensures { (p : Problem) → serves self.now p
             → option_map (λ line. tree_line_of line ∷ []) result ≡ option_map preorder ((parts_of p).barren branch.now) }
     {
@@ -44,7 +44,7 @@ pub trait Rule {
 
     /// The leaf of a branch whose nodes that are not closed are infeasible for a commodity together, if it is one.
     /// `end` gives no leaf for the branch.
-    final fn blocked(
+    fn blocked(
         &self,
         alloc: Global,
         instance: &Instance,
@@ -60,7 +60,7 @@ pub trait Rule {
     }
 
     /// The only hub set of a branch, if it has just one. For a branch that ends it may be empty.
-    final fn alone(
+    fn alone(
         &self,
         alloc: Global,
         instance: &Instance,
@@ -75,7 +75,7 @@ pub trait Rule {
 
     /// The fixed costs for the master, where the incumbent has this cost. They are in `room`, unless they are the
     /// instance's own.
-    final fn advised_costs<'a>(
+    fn advised_costs<'a>(
         &self,
         instance: &'a Instance,
         cost: u128,
@@ -99,7 +99,7 @@ pub trait Rule {
     }
 
     /// The bound of the branch, which has room, under these weights, in 10^-12, times 10^6.
-    final fn bound(&self, weighed: &NodeWeights, branch: &Branch) -> i128
+    fn bound(&self, weighed: &NodeWeights, branch: &Branch) -> i128
         requires serves { serves self.now weighed.now.instance.now }
         requires weighed { AreWeighed weighed.now }
         requires branch { IsBranch weighed.now.instance.now branch.now }
@@ -113,7 +113,7 @@ pub trait Rule {
 
     /// Variable fixing: the free candidates of the branch that these weights decide, ascending, each with the side that
     /// stays. The child on its other side is fathomed at the incumbent's cost. The branch itself is not.
-    final fn fixings(
+    fn fixings(
         &self,
         alloc: Global,
         weighed: &NodeWeights,
@@ -139,7 +139,7 @@ pub trait Rule {
     }
 
     /// The hub set to separate, by the master's point.
-    final fn pick(
+    fn pick(
         &self,
         alloc: Global,
         instance: &Instance,

@@ -9,9 +9,9 @@ ghost use Rattle.search_steps.specs.Kinds.{parts_for};
 ghost use Rattle.cut_pool.specs.Findings.{lines_of};
 ghost use Rattle.search_steps.specs.Progressing.{state_of, IsGoing};
 
+use crate::Separator;
 use crate::progress::Progress;
 use crate::separating::add_cut;
-use crate::Separator;
 use cut_pool::Pool;
 use hub_model::{HubSet, outside};
 use p_hub::first_hubs;

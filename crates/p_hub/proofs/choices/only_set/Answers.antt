@@ -6,7 +6,7 @@ use Rattle.p_hub.proofs.choices.only_set.Goals as goal
 pub returns-then-is_empty-clause-only : goal.returns-then-is_empty-clause-only
 returns-then-is_empty-clause-only c =
     let b = c.args.branch.now in
-    let taken : c.in_ok-to_vec.field-0.items ≡ c.inside-inside.result.now = search rules in
+    let taken : c.in_ok-to_vec-in-None.field-0.items ≡ c.inside-inside.result.now = search rules in
     ap (λ (ks : List ℕ). Some ks) (taken ∙ c.inside-inside.ensures.value)
     ∙ sym (ap (λ (o : Option ℕ). only_set o b) (sym c.wanted.ensures.value ∙ c.in-None.is)
     ∙ decided_only b (ap (λ (ks : List ℕ). nat_eq (length ks) 0) (sym c.free-free.ensures.value) ∙ sym c.is_empty.ensures ∙ c.if-is_empty.true))
@@ -21,7 +21,7 @@ pub returns-then-inside-hubs-clause-only : goal.returns-then-inside-hubs-clause-
 returns-then-inside-hubs-clause-only c =
     let n = c.in-Some.hubs in
     let b = c.args.branch.now in
-    let taken : c.in_ok-to_vec.field-0.items ≡ c.inside-inside.result.now = search rules in
+    let taken : c.in_ok-to_vec-in-Some.field-0.items ≡ c.inside-inside.result.now = search rules in
     let inside = ap (λ (ks : List ℕ). length ks) c.inside-inside.ensures.value in
     ap (λ (ks : List ℕ). Some ks) (taken ∙ c.inside-inside.ensures.value)
     ∙ sym (ap (λ (o : Option ℕ). only_set o b) (sym c.wanted.ensures.value ∙ c.in-Some.is)
@@ -33,7 +33,7 @@ returns-then-inside-free-clause-only c =
     let b = c.args.branch.now in
     let inside = ap (λ (ks : List ℕ). length ks) c.inside-inside.ensures.value in
     let free = ap (λ (ks : List ℕ). length ks) c.free-free.ensures.value in
-    ap (λ (ks : List ℕ). Some ks) c.in_ok-all_open.ensures
+    ap (λ (ks : List ℕ). Some ks) c.in_ok-all_open-in-Some.ensures
     ∙ sym (ap (λ (o : Option ℕ). only_set o b) (sym c.wanted.ensures.value ∙ c.in-Some.is)
     ∙ open_only n b (ne_eqb (length b.inside) n (λ e. c.if-inside-hubs.false (omega (arith, e, inside))))
     (eq-eqb (length b.inside + length b.free) n (omega (arith, inside, free, c.if-inside-free.true))))
