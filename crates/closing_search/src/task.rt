@@ -1,8 +1,5 @@
 //! What a search is to do.
 
-ghost use Rattle.std.specs.Prelude.{◌≡◌, ◌+◌, ◌<◌, ◌^◌, IsTrue, false};
-ghost use Rattle.search_spec.specs.Findings.{AreWithin, IsSpent};
-
 use hub_model::Instance;
 
 /// The greatest gap, in thousandths of a per cent: the whole cost.
@@ -22,15 +19,4 @@ pub struct Task<'a> {
     /// Nodes that are tried as the first incumbent, whatever they are: they become it where they are a set of candidates, as
     /// many as are wanted, that is feasible for each commodity, and cost less than what the search would begin with.
     pub first: &'a [u32],
-}
-
-impl Task<'_> {
-    /// Tells whether two nodes more are allowed, where so many were made.
-    pub(crate) fn allows_two(&self, made: u64) -> bool
-        requires { made + 2 < 2 ^ 64 }
-        ensures may { IsTrue result → AreWithin self.now.nodes (made + 2) }
-        ensures spent { result ≡ false → IsSpent self.now.nodes made }
-    {
-        search_core::Task::new(self.instance, self.nodes).allows_two(made)
-    }
 }

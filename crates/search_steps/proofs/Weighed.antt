@@ -7,7 +7,7 @@ use Rattle.hub_spec.specs.Problem.{Problem, fixed_cost}
 use Rattle.hub_spec.specs.Trees.{Branching, leaf_bound, IsBranch}
 use Rattle.leaf_bound.specs.declared.weightings.Weighting as lent
 use Rattle.leaf_bound.specs.Numbers.{AreWeightingNumbers, IsBranchWithin, weighting_of}
-use Rattle.leaf_bound.specs.Theorems.{weight_pairs, AreLoadsOf, IsWeightingOf}
+use Rattle.leaf_bound.specs.Theorems.{AreLoadsOf, IsWeightingOf}
 use Rattle.search_spec.specs.States.{State, denominator}
 use Rattle.search_spec.specs.Steps.{bound_at, closes_at, better, fixings}
 use Rattle.p_hub.specs.Counted.{bound_for}
