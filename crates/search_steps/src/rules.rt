@@ -24,8 +24,9 @@ use std::alloc::{AllocError, Global};
 
 /// The rule of a search: its choices that depend on the wanted number of hubs. Costs are in 10^-12.
 ///
-/// Each choice is that of the search's definition, for the instances of the rule. A branch has room where it can have
-/// the wanted number of hubs, or where none is wanted. A search bounds no other branch.
+/// Each choice is that of the search's definition, for the instances of the rule. It is made here by the wanted number of
+/// hubs, which a rule tells; a rule of other plans would make it in another way. A branch has room where it can have the
+/// wanted number of hubs, or where none is wanted. A search bounds no other branch.
 pub trait Rule {
     // The instances that it is the rule of.
     ghost serves: { Self → Problem → Type 0 };

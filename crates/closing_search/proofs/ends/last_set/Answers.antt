@@ -1,4 +1,4 @@
-use Rattle.std.proofs.Common.{◌≡◌, ℕ, List, Option, Vec, Global, ap, sym, subst, ◌∙◌}
+use Rattle.std.proofs.Common.{ℕ, List, Option, Vec, Global, ap, sym, subst, ◌∙◌}
 use Rattle.std.specs.Prelude.{option_map}
 use Rattle.closing_search.specs.Ends.{IsLastSet}
 use Rattle.closing_search.proofs.BranchEnds.{only_last, free_left}
@@ -6,7 +6,7 @@ use Rattle.closing_search.proofs.ends.last_set.Goals as goal
 use Rattle.closing_search.proofs.ends.last_set.Goals.{After-deref}
 
 -- what is told of the set
-told : Option (Vec ℕ Global) → Option (List ℕ)
+abbrev told : Option (Vec ℕ Global) → Option (List ℕ)
 told only = option_map (λ (hubs : Vec ℕ Global). hubs.items) only
 
 pub returns-in-None-clause-some_free : goal.returns-in-None-clause-some_free
@@ -28,6 +28,6 @@ of-requires-clause-some_node c = (last (goal.at.of-requires-clause-some_node c).
 pub of-requires-clause-ascend : goal.of-requires-clause-ascend
 of-requires-clause-ascend c = (last (goal.at.of-requires-clause-ascend c).After-deref).wanted_set.is_set.ascend
 
-pub returns-in-Some-clause-last : goal.returns-in-Some-clause-last
-returns-in-Some-clause-last c =
-    subst (IsLastSet c.args.instance.now c.args.branch.now) (sym c.in_ok-of.ensures) (last (goal.at.returns-in-Some-clause-last c).After-deref)
+pub returns-in_ok-of-in-Some-clause-last : goal.returns-in_ok-of-in-Some-clause-last
+returns-in_ok-of-in-Some-clause-last c =
+    subst (IsLastSet c.args.instance.now c.args.branch.now) (sym c.in_ok-of-in-Some.ensures) (last (goal.at.returns-in_ok-of-in-Some-clause-last c).After-deref)
