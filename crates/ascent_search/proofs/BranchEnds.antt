@@ -1,23 +1,28 @@
 -- Branches that end: what is left in them, as the parts of the rule by which `solve` searches tell.
-use Rattle.std.proofs.Common.{◌≡◌, ℕ, ◌+◌, ◌≤◌, true, nat_eq, eqb-true, List, [], ◌∷◌, length, take, Contains, Option, None, Some, IfSome, ⊎_elim, refl, sym, ap, subst, ◌∙◌, pos, eq-eqb, ne_eqb, arith}
-use Rattle.std.specs.List.Sorted.{IsStrictlyIncreasing}
-use Rattle.std.proofs.lemmas.List.{length-take-le}
-use Rattle.std.proofs.lemmas.Option.{none-some}
-use Rattle.std.proofs.lemmas.List.Elements.{All-nil, All-contains, All-contains_itself}
-use Rattle.hub_spec.specs.Problem.{Problem, IsProblem, commodities}
-use Rattle.hub_spec.specs.Plans.{IsCandidateSet, IsHubSet, HasRoute}
+use Rattle.std.proofs.Common.{◌≡◌, ℕ, ◌+◌, ◌≤◌, ◌||◌, nat_eq, nat_lt, eqb-true, List, [], ◌∷◌, length, get_or, Option, None, Some, IfSome, refl, sym, ap, subst, ◌∙◌, pos, arith}
+use Rattle.std.specs.Prelude.{option_map}
+use Rattle.std.proofs.lemmas.Bool.{eqb-false}
+use Rattle.std.proofs.lemmas.List.{take_all}
+use Rattle.std.proofs.lemmas.Option.{none-some, same_Some}
+use Rattle.std.proofs.lemmas.List.Elements.{All-nil, All-contains_itself}
+use Rattle.hub_spec.specs.Problem.{Problem, IsProblem}
+use Rattle.hub_spec.specs.Plans.{IsHubSet}
 use Rattle.hub_spec.specs.Cuts.{Cut}
 use Rattle.hub_spec.specs.Lacking.{lacking}
-use Rattle.hub_spec.specs.Trees.{Branching, IsSplit, IsBranch, HasRoom, LacksRoom, IsClosed, IsBlocked, IsMultiple, leaf_bound, Closes, TreeLine, no_hub, no_route, no_count, block}
-use Rattle.hub_spec.proofs.Lacking.{tells}
+use Rattle.hub_spec.specs.Trees.{Branching, IsBranch, HasRoom, IsBlocked, IsMultiple, leaf_bound, Closes, Tree, empty, block, count, IsSound, TreeLine, no_hub, no_route, no_count, preorder}
 use Rattle.hub_spec.proofs.Ascending.{ascend_nil}
-use Rattle.hub_spec.proofs.Sets.{All-from_contains}
-use Rattle.search_spec.specs.States.{denominator, whole_on}
-use Rattle.search_spec.specs.Choices.{Advising, IsSoundAdvising, rule_parts, with_nodes, all_open, blocked_end, all_decided, only_set}
-use Rattle.search_spec.specs.Laws.{NumberReaches, AreSound}
-use Rattle.search_spec.specs.Costs.{least_of}
-use Rattle.search_spec.proofs.OpenNodes.{apart_ascending, ascend_take, in_take, in_with_nodes, with_nodes_ascends, length_with_nodes}
-use Rattle.search_spec.proofs.RuleParts.{some_serves, any_length, rule_sound}
+use Rattle.hub_spec.proofs.SumLemmas.{by_test}
+use Rattle.hub_model.specs.declared.tree_lines.TreeLine as model
+use Rattle.hub_model.specs.Lines.{tree_line_of}
+use Rattle.search_spec.specs.States.{Parts, denominator, whole_on}
+use Rattle.search_spec.specs.Choices.{Advising, IsSoundAdvising, rule_parts, all_open, barren_end, blocked_end, only_set, begun_for}
+use Rattle.search_spec.specs.Steps.{begun}
+use Rattle.search_spec.specs.Laws.{NumberReaches, AreSound, IsWantedSet}
+use Rattle.search_spec.specs.Costs.{least_of, first_hubs}
+use Rattle.search_spec.proofs.RuleParts.{some_serves, rule_sound}
+use Rattle.search_spec.proofs.WholeSearches.{begun_by}
+use Rattle.p_hub.proofs.NumberChoices.{empty_ends, open_goes_on, count_ends, count_goes_on, some_open, room_when}
+use Rattle.p_hub.proofs.OpenBranches.{never_blocked}
 use Rattle.ascent_search.specs.Ends.{IsBarren, IsOpen, IsLastSet}
 use Rattle.ascent_search.specs.Progressing.{AreFirstHubs}
 
@@ -48,139 +53,110 @@ pub last_closes : (p : Problem) (b : Branching) (set : List ℕ) (cuts : List Cu
 unfolding rule_parts
 last_closes p b set cuts x target ok is room only reaches = (parts_sound p ok).closes b set cuts x target is room only reaches
 
+-- ---- lines of branches in which no set is left
+
+-- what is told as a line
+abbrev pub lines_told : Option model.TreeLine → Option (List TreeLine)
+lines_told told = option_map (λ (l : model.TreeLine). tree_line_of l ∷ []) told
+
+one_line : (x y : TreeLine) → Some (x ∷ []) ≡ Some (y ∷ []) → x ≡ y
+one_line x y e = ap (λ (ls : List TreeLine). get_or ls 0 y) (same_Some (x ∷ []) (y ∷ []) e)
+
+pub none_told : (end : Option Tree) (told : Option model.TreeLine) → lines_told told ≡ option_map preorder end → told ≡ None → end ≡ None
+none_told None told is none = refl
+none_told (Some t) told is none = absurd (none-some (preorder t) (sym (ap lines_told none) ∙ is))
+
+-- the tree with which a branch ends is sound there
+ended : (p : Problem) (b : Branching) (t : Tree) → IsProblem p → IsBranch p b → barren_end p.wanted b ≡ Some t → IsSound p [] 0 b t
+unfolding rule_parts
+ended p b t ok is end = ((parts_sound p ok).barren b t is end).sound [] 0
+
 blocked : (p : Problem) (b : Branching) (c : ℕ × ℕ) → IsProblem p → IsBranch p b → lacking p (all_open b) ≡ Some c → IsBlocked p b c
 unfolding rule_parts blocked_end
 blocked p b c ok is lacks = ((parts_sound p ok).blocked b (block c) is (rw lacks refl)).sound [] 0
 
--- ---- lines of branches in which no set is left
+block_end : (p : Problem) (b : Branching) (o : Option (ℕ × ℕ)) → lacking p (all_open b) ≡ o → blocked_end p b ≡ option_map (λ (c : ℕ × ℕ). block c) o
+unfolding blocked_end
+block_end p b o e = ap (λ (x : Option (ℕ × ℕ)). option_map (λ (c : ℕ × ℕ). block c) x) e
 
-pub empty_barren : (p : Problem) (b : Branching) (line : TreeLine) → line ≡ no_hub → IsClosed b → IsBarren p b line
-empty_barren p b line is closed = subst (IsBarren p b) (sym is) (record {
-  sound = λ cuts target. closed;
-  end = λ b pending. refl;
-  in_range = tt;
-  first = λ any. tt;
-})
+-- a line that is told of its numbers
+number_line : (p : Problem) (b : Branching) (line : TreeLine) → IsProblem p → IsBranch p b
+    → Some (line ∷ []) ≡ option_map preorder (barren_end p.wanted b) → IsBarren p b line
+number_line p b line ok is told = by p.wanted refl told
+  where
+    by : (wanted : Option ℕ) → p.wanted ≡ wanted → Some (line ∷ []) ≡ option_map preorder (barren_end wanted b) → IsBarren p b line
+    by None e told =
+        by_test (nat_eq (length b.inside + length b.free) 0)
+        (λ z. (let end = empty_ends b (eqb-true (length b.inside + length b.free) 0 z) in
+        let closed = ended p b empty ok is (ap (λ (o : Option ℕ). barren_end o b) e ∙ end) in
+        subst (IsBarren p b) (sym (one_line line no_hub (told ∙ ap (option_map preorder) end))) (record {
+          sound = λ cuts target. closed;
+          end = λ b pending. refl;
+          in_range = tt;
+          first = λ any. tt;
+        })))
+        (λ z. absurd (none-some (line ∷ [])
+        (sym (told ∙ ap (option_map preorder) (open_goes_on b (eqb-false (length b.inside + length b.free) 0 z))))))
+    by (Some n) e told =
+        by_test (nat_lt n (length b.inside) || nat_lt (length b.inside + length b.free) n)
+        (λ t. (let end = count_ends n b t in
+        let lacks = ended p b count ok is (ap (λ (o : Option ℕ). barren_end o b) e ∙ end) in
+        subst (IsBarren p b) (sym (one_line line no_count (told ∙ ap (option_map preorder) end))) (record {
+          sound = λ cuts target. lacks;
+          end = λ b pending. refl;
+          in_range = tt;
+          first = λ any. absurd (none-some n (sym any.any_number ∙ e));
+        })))
+        (λ t. absurd (none-some (line ∷ []) (sym (told ∙ ap (option_map preorder) (count_goes_on n b t)))))
 
-pub count_barren : (p : Problem) (n : ℕ) (b : Branching) (line : TreeLine) → line ≡ no_count → p.wanted ≡ Some n → LacksRoom (Some n) b
-    → IsBarren p b line
-count_barren p n b line is wanted lacks = subst (IsBarren p b) (sym is) (record {
-  sound = λ cuts target. subst (λ (o : Option ℕ). LacksRoom o b) (sym wanted) lacks;
-  end = λ b pending. refl;
-  in_range = tt;
-  first = λ any. absurd (none-some n (sym any.any_number ∙ wanted));
-})
+pub number_barren : (p : Problem) (b : Branching) (told : Option model.TreeLine) (line : model.TreeLine) → IsProblem p → IsBranch p b
+    → lines_told told ≡ option_map preorder (barren_end p.wanted b) → told ≡ Some line → IsBarren p b (tree_line_of line)
+number_barren p b told line ok is end known = number_line p b (tree_line_of line) ok is (sym (ap lines_told known) ∙ end)
 
--- ---- branches with an open node
+-- a line that is told of what its open nodes lack
+pub block_barren : (p : Problem) (b : Branching) (told : Option model.TreeLine) → IsProblem p → IsBranch p b → barren_end p.wanted b ≡ None
+    → lines_told told ≡ option_map preorder (blocked_end p b) → IfSome told (λ l. IsBarren p b (tree_line_of l))
+block_barren p b None ok is goes told = tt
+block_barren p b (Some l) ok is goes told = by (lacking p (all_open b)) refl told
+  where
+    line : TreeLine
+    line = tree_line_of l
 
-open_candidate : (p : Problem) (b : Branching) (k : ℕ) → IsBranch p b → Contains (with_nodes b.free b.inside) k → Contains p.candidates k
-open_candidate p b k is opened =
-    ⊎_elim (λ free. All-contains (Contains p.candidates) b.free k is.free_are free)
-    (λ inside. All-contains (Contains p.candidates) b.inside k is.inside_are inside) (in_with_nodes b.free b.inside k opened)
+    by : (o : Option (ℕ × ℕ)) → lacking p (all_open b) ≡ o → Some (line ∷ []) ≡ option_map preorder (blocked_end p b) → IsBarren p b line
+    by None e same = absurd (none-some (line ∷ []) (sym (same ∙ ap (option_map preorder) (block_end p b None e))))
+    by (Some c) e same =
+        let at = blocked p b c ok is e in
+        subst (IsBarren p b) (sym (one_line line (no_route c) (same ∙ ap (option_map preorder) (block_end p b (Some c) e)))) (record {
+          sound = λ cuts target. at;
+          end = λ b pending. refl;
+          in_range = (at.from, at.to);
+          first = λ any. absurd (none-some (line ∷ [])
+              (sym (same ∙ ap (option_map preorder) (never_blocked p b any.any_length (some_open p b ok goes)))));
+        })
 
-pub open_ascends : (b : Branching) → IsSplit b → IsStrictlyIncreasing (with_nodes b.free b.inside)
-open_ascends b is =
-    with_nodes_ascends b.free b.inside (apart_ascending b.free is.free_ascends) is.inside_apart is.inside_ascends
+-- ---- branches that go on
 
-pub open_set : (p : Problem) (b : Branching) → IsBranch p b → 1 ≤ length b.inside + length b.free → IsCandidateSet p (all_open b)
-unfolding all_open
-open_set p b is some = record {
-  some_hub = omega (arith, some, length_with_nodes b.free b.inside);
-  ascend = open_ascends b is.split;
-  are_candidates = All-from_contains (Contains p.candidates) (with_nodes b.free b.inside) (λ k c. open_candidate p b k is c);
+-- with neither an end by its numbers nor by what its open nodes lack
+pub is_open : (p : Problem) (b : Branching) (told : Option model.TreeLine) → barren_end p.wanted b ≡ None
+    → lines_told told ≡ option_map preorder (blocked_end p b) → told ≡ None → IsOpen p b
+is_open p b told goes is none = record {
+  room = room_when p.wanted b goes;
+  barren = goes;
+  blocked = none_told (blocked_end p b) told is none;
 }
 
--- no commodity is lacked where no length is limited
-unlimited_serves : (p : Problem) (hubs : List ℕ) (c : ℕ × ℕ) → p.longest ≡ None → 1 ≤ length hubs → lacking p hubs ≡ Some c → ⊥
-unlimited_serves p hubs c any some lacks =
-    let lacked = (tells p hubs).lacked c lacks in
-    lacked.1 (All-contains (HasRoute p hubs) (commodities p.size) c (some_serves p hubs any some) lacked.0)
-
-pub block_barren : (p : Problem) (b : Branching) (c : ℕ × ℕ) (line : TreeLine) → line ≡ no_route c → IsProblem p → IsBranch p b
-    → 1 ≤ length b.inside + length b.free → lacking p (all_open b) ≡ Some c → IsBarren p b line
-block_barren p b c line is ok branch some lacks =
-    let at = blocked p b c ok branch lacks in
-    subst (IsBarren p b) (sym is) (record {
-      sound = λ cuts target. at;
-      end = λ b pending. refl;
-      in_range = (at.from, at.to);
-      first = λ any. absurd (unlimited_serves p (all_open b) c any.any_length (open_set p b branch some).some_hub lacks);
-    })
-
--- where no length is limited the open nodes lack no commodity
-pub any_open : (p : Problem) (b : Branching) → p.longest ≡ None → IsBranch p b → 1 ≤ length b.inside + length b.free → HasRoom p.wanted b
-    → IsOpen p b
-any_open p b any is some room =
-    let set = open_set p b is some in
-    record { room = room; lacks_none = record { set = set; lacks_none = some_serves p (all_open b) any set.some_hub } }
-
--- and else where none is told
-pub serving_open : (p : Problem) (b : Branching) → lacking p (all_open b) ≡ None → IsBranch p b → 1 ≤ length b.inside + length b.free
-    → HasRoom p.wanted b → IsOpen p b
-serving_open p b none is some room = record {
-  room = room;
-  lacks_none = record { set = open_set p b is some; lacks_none = (tells p (all_open b)).none.0 none };
-}
-
--- ---- the one set that is left
-
-pub none_of : (ks : List ℕ) → nat_eq (length ks) 0 ≡ true → ks ≡ []
-none_of [] e = refl
-none_of (k ∷ ks) e = absurd (omega (arith, eqb-true (length (k ∷ ks)) 0 e))
-
--- the hubs of a branch in which no node is free
-decided_set : (p : Problem) (b : Branching) → b.free ≡ [] → IsOpen p b → IsHubSet p b.inside
-unfolding all_open
-decided_set p b none opened = subst (λ (ks : List ℕ). IsHubSet p (with_nodes ks b.inside)) none opened.lacks_none
-
-pub decided_some : (p : Problem) (b : Branching) → b.free ≡ [] → IsOpen p b → 1 ≤ length b.inside
-decided_some p b none opened = (decided_set p b none opened).some_hub
-
-pub decided_last : (p : Problem) (b : Branching) (set : List ℕ) → p.wanted ≡ None → b.free ≡ [] → IsOpen p b → set ≡ b.inside
+-- the one set that is left, and else a free node
+pub only_last : (p : Problem) (b : Branching) (set : List ℕ) → IsProblem p → IsBranch p b → IsOpen p b → only_set p.wanted b ≡ Some set
     → IsLastSet p b set
-unfolding only_set all_decided
-decided_last p b set any none opened same =
-    subst (IsLastSet p b) (sym same) (record {
-      only = rw (any, none) refl;
-      wanted_set = record {
-        is_set = decided_set p b none opened;
-        wanted = rw any tt;
-      };
-    })
+unfolding rule_parts
+only_last p b set ok is goes only = record {
+  only = only;
+  wanted_set = (parts_sound p ok).only b set is goes.room goes.barren goes.blocked only;
+}
 
--- the hubs of a branch, as many as are wanted
-pub full_last : (p : Problem) (n : ℕ) (b : Branching) (set : List ℕ) → IsProblem p → p.wanted ≡ Some n → IsBranch p b → length b.inside ≡ n
-    → set ≡ b.inside → IsLastSet p b set
-unfolding only_set
-full_last p n b set ok wanted is many same =
-    let limit : (1 ≤ n) × (n ≤ length p.candidates) = subst (λ (o : Option ℕ). IfSome o (λ n. (1 ≤ n) × (n ≤ length p.candidates))) wanted ok.wanted_limit in
-    let some : 1 ≤ length b.inside = omega (arith, limit.0, many) in
-    let yes = eq-eqb (length b.inside) n many in
-    subst (IsLastSet p b) (sym same) (record {
-      only = rw (wanted, yes) refl;
-      wanted_set = record {
-        is_set = record {
-          set = record { some_hub = some; ascend = is.inside_ascends; are_candidates = is.inside_are };
-          lacks_none = some_serves p b.inside (any_length p n ok wanted) some;
-        };
-        wanted = rw wanted many;
-      };
-    })
-
--- all its open nodes, where these are as many
-pub open_last : (p : Problem) (n : ℕ) (b : Branching) (set : List ℕ) → p.wanted ≡ Some n → (length b.inside ≡ n → ⊥)
-    → length b.inside + length b.free ≡ n → IsOpen p b → set ≡ all_open b → IsLastSet p b set
-unfolding only_set all_open
-open_last p n b set wanted fewer many opened same =
-    let no = ne_eqb (length b.inside) n fewer in
-    let yes = eq-eqb (length b.inside + length b.free) n many in
-    subst (IsLastSet p b) (sym same) (record {
-      only = rw (wanted, no, yes) refl;
-      wanted_set = record {
-        is_set = opened.lacks_none;
-        wanted = rw wanted (omega (arith, length_with_nodes b.free b.inside, many));
-      };
-    })
+pub free_left : (p : Problem) (b : Branching) → IsProblem p → IsBranch p b → IsOpen p b → only_set p.wanted b ≡ None → 1 ≤ length b.free
+unfolding rule_parts
+free_left p b ok is goes none = (parts_sound p ok).some_free b is goes.room none
 
 -- ---- the set of all candidates, and the first incumbent
 
@@ -194,28 +170,16 @@ all_candidates p ok any = record {
   lacks_none = some_serves p p.candidates any ok.some_candidate;
 }
 
-pub all_first : (p : Problem) (hubs : List ℕ) → p.wanted ≡ None → IsHubSet p p.candidates → hubs ≡ p.candidates → AreFirstHubs p hubs
-all_first p hubs any serves same = record {
-  set = record { is_set = subst (IsHubSet p) (sym same) serves; wanted = rw any tt };
-  are = same ∙ sym (ap (λ (o : Option ℕ). least_of o p.candidates) any);
-}
+-- the set with which a search begins that is given none is that of the rule
+begun_hubs : (p : Problem) (parts : Parts) (wanted : Option ℕ) → (begun_for p parts wanted).hubs ≡ least_of wanted p.candidates
+unfolding begun_for begun
+begun_hubs p parts None = refl
+begun_hubs p parts (Some n) =
+    by_test (nat_eq n (length p.candidates))
+    (λ e. rw e (sym (take_all n p.candidates (omega (arith, eqb-true n (length p.candidates) e))))) (λ e. rw e refl)
 
-pub some_first : (p : Problem) (n : ℕ) (hubs : List ℕ) → IsProblem p → p.wanted ≡ Some n → hubs ≡ take n p.candidates → AreFirstHubs p hubs
-some_first p n hubs ok wanted same =
-    let limit : (1 ≤ n) × (n ≤ length p.candidates) = subst (λ (o : Option ℕ). IfSome o (λ n. (1 ≤ n) × (n ≤ length p.candidates))) wanted ok.wanted_limit in
-    let many : length (take n p.candidates) ≡ n = length-take-le n p.candidates limit.1 in
-    let some : 1 ≤ length (take n p.candidates) = omega (arith, many, limit.0) in
-    subst (AreFirstHubs p) (sym same) (record {
-      set = record {
-        is_set = record {
-          set = record {
-            some_hub = some;
-            ascend = ascend_take n p.candidates ok.candidates_ascend;
-            are_candidates = All-from_contains (Contains p.candidates) (take n p.candidates) (λ k c. in_take n p.candidates k c);
-          };
-          lacks_none = some_serves p (take n p.candidates) (any_length p n ok wanted) some;
-        };
-        wanted = rw wanted many;
-      };
-      are = sym (ap (λ (o : Option ℕ). least_of o p.candidates) wanted);
-    })
+pub first_are : (p : Problem) (hubs : List ℕ) → IsProblem p → IsHubSet p p.candidates → hubs ≡ first_hubs p → AreFirstHubs p hubs
+first_are p hubs ok all same =
+    let parts = rule_parts p no_advice in
+    let start = begun_by p parts p.wanted ok all (parts_sound p ok) refl in
+    record { set = subst (IsWantedSet p) (begun_hubs p parts p.wanted ∙ sym same) start.state.hubs; are = same }

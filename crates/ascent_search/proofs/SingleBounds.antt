@@ -12,14 +12,13 @@ use Rattle.hub_spec.specs.Trees.{Branching, IsBranch, mixed_total, mixed_gain, b
 use Rattle.hub_spec.proofs.LeastSums.{least_not_below}
 use Rattle.hub_spec.proofs.Mixes.{candidate_is_node}
 use Rattle.leaf_bound.specs.declared.weightings.Weighting as lent
-use Rattle.leaf_bound.specs.Bounds.{Weighting}
-use Rattle.leaf_bound.specs.Numbers.{AreWeightingNumbers, IsBranchBelow, IsBranchWithin, weighting_of}
+use Rattle.leaf_bound.specs.Numbers.{AreWeightingNumbers, IsBranchWithin, weighting_of}
 use Rattle.leaf_bound.specs.Theorems.{weight_pairs, AreLoadsOf, IsWeightingOf}
-use Rattle.leaf_bound.proofs.LeafWeights.{leaf_has_bound}
-use Rattle.p_hub.proofs.CountedBounds.{leaf_counted}
+use Rattle.p_hub.specs.Counted.{bound_for}
+use Rattle.p_hub.proofs.CountedBounds.{leaf_for}
 use Rattle.search_spec.specs.States.{denominator}
 use Rattle.search_core.proofs.Weightings.{below_size, candidate_within, branch_within}
-use Rattle.ascent_search.specs.SingleCuts.{AreLoads, IsOnCut, IsOnNone, bound_for, cut_bound}
+use Rattle.ascent_search.specs.SingleCuts.{AreLoads, IsOnCut, IsOnNone, cut_bound}
 
 -- ---- the sums of a cut are within their limits
 
@@ -103,18 +102,12 @@ on_cut p cut m on =
       few_weights = omega (arith, ap length on.weights_are);
     }
 
--- by the number of hubs that is wanted, if one is
-leaf_has : (p : Problem) (wanted : Option ℕ) (cuts : List Cut) (m : Weighting) (b : Branching) → p.wanted ≡ wanted → IsWeightingOf p cuts m
-    → IsBranchBelow p.size b → leaf_bound p cuts m.denom (weight_pairs m.weights) b ≡ bound_for wanted m b
-leaf_has p None cuts m b any on below = leaf_has_bound p cuts m b any on below
-leaf_has p (Some n) cuts m b wanted on below = leaf_counted n p cuts m b wanted on below
-
 -- the bound by these weights, as they are lent
 lent_bound : (p : Problem) (cuts : List Cut) (m : lent.Weighting) (ws : List ℕ) (b : Branching) → IsProblem p
     → IsBranch p b → IsWeightingOf p cuts (weighting_of m) → m.weights.now ≡ ws
     → m.denom ≡ denominator → bound_for p.wanted (weighting_of m) b ≡ leaf_bound p cuts denominator (weight_pairs ws) b
 lent_bound p cuts m ws b ok is on weights denom =
-    sym (leaf_has p p.wanted cuts (weighting_of m) b refl on (below_size p b ok is))
+    sym (leaf_for p p.wanted cuts (weighting_of m) b refl on (below_size p b ok is))
     ∙ ap₂ (λ (d : ℕ) (xs : List ℕ). leaf_bound p cuts d (weight_pairs xs) b) denom weights
 
 pub cut_bound_is : (p : Problem) (cut : Cut) (m : lent.Weighting) (b : Branching) → IsProblem p

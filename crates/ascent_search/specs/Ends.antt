@@ -5,7 +5,7 @@ use Rattle.hub_spec.specs.Plans.{IsHubSet}
 use Rattle.hub_spec.specs.Cuts.{Cut}
 use Rattle.hub_spec.specs.Ranges.{IsFirstLine, IsLineInRange}
 use Rattle.hub_spec.specs.Trees.{Branching, HasRoom, TreeLine}
-use Rattle.search_spec.specs.Choices.{all_open, only_set}
+use Rattle.search_spec.specs.Choices.{barren_end, blocked_end, only_set}
 use Rattle.search_spec.specs.Laws.{IsWantedSet}
 use Rattle.search_spec.specs.Walks.{IsSoundLine, filled}
 use Rattle.cut_pool.specs.Findings.{IsUnlimited}
@@ -21,10 +21,11 @@ pub record IsBarren (p : Problem) (b : Branching) (line : TreeLine) : Type 0 whe
   pub in_range : IsLineInRange p.size line
   pub first : IsUnlimited p → IsFirstLine line
 
--- the branch has room for the wanted hubs, and its hubs with all its free nodes lack no commodity
+-- the branch has no end: it has room for the wanted hubs, and its hubs with all its free nodes lack no commodity
 pub record IsOpen (p : Problem) (b : Branching) : Type 0 where
   pub room : HasRoom p.wanted b
-  pub lacks_none : IsHubSet p (all_open b)
+  pub barren : barren_end p.wanted b ≡ None
+  pub blocked : blocked_end p b ≡ None
 
 -- the one hub set that is left in the branch, which is a wanted one
 pub record IsLastSet (p : Problem) (b : Branching) (set : List ℕ) : Type 0 where

@@ -6,9 +6,7 @@ use Rattle.hub_spec.specs.Cuts.{Cut, total, load, IsCut}
 use Rattle.hub_spec.specs.Separation.{IsOrder}
 use Rattle.hub_spec.specs.Trees.{Branching, leaf_bound, Closes}
 use Rattle.leaf_bound.specs.declared.weightings.Weighting as lent
-use Rattle.leaf_bound.specs.Bounds.{Weighting, bound_of}
 use Rattle.leaf_bound.specs.Numbers.{rows_of}
-use Rattle.p_hub.specs.Counted.{counted_of}
 use Rattle.search_spec.specs.States.{denominator, whole_on}
 use Rattle.ascent_search.specs.declared.leaves.Choice.{Choice}
 use Rattle.ascent_search.specs.declared.leaves.OrderedSet.{OrderedSet}
@@ -45,11 +43,6 @@ pub record IsOnNone (p : Problem) (m : lent.Weighting) : Type 0 where
   pub fixed_are : m.fixed.now ≡ p.fixed_costs
   pub weights_are : m.weights.now ≡ []
   pub denom_is : m.denom ≡ denominator
-
--- the bound of a branch under weights that are lent, by the number of hubs that is wanted, if one is
-abbrev pub bound_for : Option ℕ → Weighting → Branching → ℤ
-bound_for None m b = bound_of m b
-bound_for (Some n) m b = counted_of n m b
 
 -- the bound of a branch by the cut alone
 abbrev pub cut_bound : Problem → Cut → Branching → ℤ

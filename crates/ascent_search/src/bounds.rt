@@ -5,19 +5,18 @@ ghost use Rattle.hub_spec.specs.Problem.{IsProblem};
 ghost use Rattle.hub_spec.specs.Cuts.{Cut};
 ghost use Rattle.hub_spec.specs.Trees.{IsBranch, HasRoom, leaf_bound, cut_at, Closes};
 ghost use Rattle.hub_spec.specs.Limits.{most_cost};
-ghost use Rattle.leaf_bound.specs.Numbers.{AreWeightingNumbers, IsBranchWithin, weighting_of};
 ghost use Rattle.leaf_bound.specs.Weighing.{most_bound, IsWithin};
 ghost use Rattle.search_spec.specs.States.{denominator};
 ghost use Rattle.ascent_search.specs.Gaps.{goal_of};
 ghost use Rattle.ascent_search.specs.Progressing.{cuts_of, IsGoing};
-ghost use Rattle.ascent_search.specs.SingleCuts.{AreLoads, AreLentOf, IsOnCut, IsOnNone, bound_for, cut_bound, ClosesBy};
+ghost use Rattle.ascent_search.specs.SingleCuts.{AreLoads, AreLentOf, IsOnCut, IsOnNone, cut_bound, ClosesBy};
 
 use crate::progress::{Progress, goal};
 use crate::task::Task;
 use crate::walk::Walk;
 use hub_model::{Branch, Instance};
-use leaf_bound::{Weighting, bound, threshold};
-use p_hub::bound_p;
+use leaf_bound::{Weighting, threshold};
+use p_hub::bound_by_number;
 use search_core::WHOLE_WEIGHT;
 use std::alloc::AllocError;
 
@@ -59,20 +58,6 @@ fn bare_weighting<'a>(instance: &'a Instance) -> Weighting<'a>
         fixed: instance.fixed_costs(),
         weights: &[],
         denom: WHOLE_WEIGHT,
-    }
-}
-
-// The bound of the branch, which has room, under these weights, for exactly p hubs if p is given.
-fn bound_by_number(instance: &Instance, weighting: &Weighting, branch: &Branch) -> i128
-    requires numbers { AreWeightingNumbers weighting.now }
-    requires nodes { IsBranchWithin weighting.now branch.now }
-    requires room { HasRoom instance.now.wanted branch.now }
-    ensures value { result ≡ bound_for instance.now.wanted (weighting_of weighting.now) branch.now }
-    ensures limit { IsWithin most_bound result }
-{
-    match instance.wanted() {
-        None => bound(weighting, branch),
-        Some(hubs) => bound_p(weighting, branch, hubs),
     }
 }
 

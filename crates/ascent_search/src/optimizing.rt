@@ -17,6 +17,7 @@ use crate::walker::Walker;
 use assign_sub::{assign, cost_of_set};
 use cut_pool::{Found, KeptCuts};
 use hub_model::{Branch, HubSet, Instance, Plan};
+use p_hub::first_hubs;
 use search_advice::Advice;
 use std::alloc::{AllocError, Global};
 use std::thread::Threads;
@@ -182,19 +183,6 @@ fn cheaper(task: &Task, own: Incumbent, given: HubSet) -> Incumbent
         };
     }
     own
-}
-
-// The first incumbent of the instance: all candidates, or the p least ones.
-fn first_hubs(instance: &Instance) -> &[u32]
-    requires lacks_none { IsHubSet instance.now instance.now.candidates }
-    ensures problem { IsProblem instance.now }
-    ensures first { AreFirstHubs instance.now result.now }
-{
-    let candidates = instance.candidates();
-    match instance.wanted() {
-        None => candidates,
-        Some(hubs) => &candidates[..hubs as usize],
-    }
 }
 
 // The incumbent with its least routes, and the lower bound on the cost of every plan.

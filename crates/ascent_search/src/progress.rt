@@ -93,7 +93,7 @@ pub(crate) fn may_split(task: &Task, progress: &Progress) -> bool
     ensures may { IsTrue result → AreWithin task.now.nodes (progress.now.made + 2) }
     ensures spent { result ≡ false → IsSpent task.now.nodes progress.now.made }
 {
-    task.allows_two(progress.made)
+    search_core::Task::new(task.instance, task.nodes).allows_two(progress.made)
 }
 
 /// Makes the wanted set the incumbent, if it costs less.

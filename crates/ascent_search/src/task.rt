@@ -1,8 +1,5 @@
 //! The task of a search.
 
-ghost use Rattle.std.specs.Prelude.{◌≡◌, ◌+◌, ◌<◌, ◌^◌, IsTrue, false};
-ghost use Rattle.search_spec.specs.Findings.{AreWithin, IsSpent};
-
 use hub_model::Instance;
 
 /// The greatest gap, in thousandths of a per cent: the whole cost.
@@ -22,15 +19,4 @@ pub struct Task<'a> {
     /// Nodes to try as the first incumbent. They become it where they are a feasible set of candidates of the wanted
     /// number, and cost less than the instance's own first incumbent.
     pub first: &'a [u32],
-}
-
-impl Task<'_> {
-    /// Returns whether two more nodes are allowed after this many.
-    pub(crate) fn allows_two(&self, made: u64) -> bool
-        requires { made + 2 < 2 ^ 64 }
-        ensures may { IsTrue result → AreWithin self.now.nodes (made + 2) }
-        ensures spent { result ≡ false → IsSpent self.now.nodes made }
-    {
-        search_core::Task::new(self.instance, self.nodes).allows_two(made)
-    }
 }

@@ -66,19 +66,17 @@ pub fn search_from<R: Rule, S: Separator>(
     ensures enough { IsEnough (2 ^ (length instance.now.candidates + 1)) nodes → IfOk result (λ found. found.bound ≡ found.cost) }
 {
     let task = Task { instance, nodes };
-    let progress = begin_from(alloc, rule, &task, separator, start)?;
+    let progress = begin_from(alloc, &task, separator, start)?;
     search_on(alloc, rule, &task, separator, progress)
 }
 
 // As the rule begins, then the imported cuts, then the hubs.
-fn begin_from<R: Rule, S: Separator>(
+fn begin_from<S: Separator>(
     alloc: Global,
-    rule: &R,
     task: &Task,
     separator: &mut S,
     start: Start,
 ) -> Result<Progress, AllocError>
-    requires serves { R.serves rule.now task.now.instance.now }
     requires lacks_none { IsHubSet task.now.instance.now task.now.instance.now.candidates }
     requires ready { S.ready separator.old }
     requires start { IsStartOf task.now.instance.now (start_seen start) }
@@ -89,7 +87,7 @@ fn begin_from<R: Rule, S: Separator>(
     ensures going { IfOk result (IsGoing task.now) }
 {
     let Start { cuts, hubs } = start;
-    let mut progress = begin(alloc, rule, task, separator)?;
+    let mut progress = begin(alloc, task, separator)?;
     give(alloc, task, &mut progress, cuts)?;
     try_hubs(alloc, task, &mut progress, separator, &hubs)?;
     Ok(progress)

@@ -57,7 +57,7 @@ pub fn search<R: Rule, S: Separator>(
     ensures enough { IsEnough (2 ^ (length instance.now.candidates + 1)) nodes → IfOk result (λ found. found.bound ≡ found.cost) }
 {
     let task = Task { instance, nodes };
-    let progress = begin(alloc, rule, &task, separator)?;
+    let progress = begin(alloc, &task, separator)?;
     search_on(alloc, rule, &task, separator, progress)
 }
 

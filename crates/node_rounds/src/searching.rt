@@ -32,7 +32,7 @@ use cut_pool::Found;
 use hub_io::Gate;
 use hub_model::{Branch, Instance};
 use search_core::Task;
-use search_steps::{Plain, Progress, Separator, begin, finish};
+use search_steps::{Progress, Separator, begin, finish};
 use std::alloc::{AllocError, Global};
 use std::thread::Threads;
 
@@ -140,7 +140,7 @@ pub(crate) fn search_by<R: Threads + Sync, G: Gate, S: Separator>(
     ensures ready { S.ready separator.new }
     ensures found { IfOk result (IsWholeSearch task.now) }
 {
-    let first = begin(alloc, &Plain, task, separator)?;
+    let first = begin(alloc, task, separator)?;
     let progress = all_rounds(workers, &mut turner, alloc, task, separator, first)?;
     Ok(progress)
 }

@@ -1,5 +1,5 @@
 -- The bound of a branch where just so many hubs are wanted: by gains that are read of a list, and at a leaf.
-use Rattle.std.proofs.Common.{◌≡◌, ℕ, zero, suc, ◌<◌, ℤ, pos, ◌+ℤ◌, ◌-◌, List, [], ◌∷◌, length, get_or, All, Option, Some, nat_lt, if◌then◌else◌, refl, sym, ap, ap₂, ◌∙◌}
+use Rattle.std.proofs.Common.{◌≡◌, ℕ, zero, suc, ◌<◌, ℤ, pos, ◌+ℤ◌, ◌-◌, List, [], ◌∷◌, length, get_or, All, Option, Some, None, nat_lt, if◌then◌else◌, refl, sym, ap, ap₂, ◌∙◌}
 use Rattle.std.specs.Int.{int_min}
 use Rattle.std.proofs.lemmas.List.Elements.{All-head, All-tail}
 use Rattle.hub_spec.specs.Sums.{least_sum}
@@ -12,8 +12,8 @@ use Rattle.leaf_bound.specs.declared.weightings.Weighting as lent
 use Rattle.leaf_bound.specs.Numbers.{IsBranchBelow, IsBranchWithin, weighting_of}
 use Rattle.leaf_bound.specs.Theorems.{weight_pairs, IsWeightingOf}
 use Rattle.leaf_bound.proofs.LentNumbers.{sum_ints_same, AreGainsOf, read_gains}
-use Rattle.leaf_bound.proofs.LeafWeights.{total_is, gain_is}
-use Rattle.p_hub.specs.Counted.{counted_of, gain_in, AreRising}
+use Rattle.leaf_bound.proofs.LeafWeights.{total_is, gain_is, leaf_has_bound}
+use Rattle.p_hub.specs.Counted.{counted_of, bound_for, gain_in, AreRising}
 use Rattle.p_hub.proofs.RisingGains.{values_rising}
 
 -- ---- the same gains
@@ -70,3 +70,9 @@ pub leaf_counted : (n : ℕ) (p : Problem) (cuts : List Cut) (m : Weighting) (b 
 leaf_counted n p cuts m b wanted made below =
     ap (λ (o : Option ℕ). bound_by o (mixed_total cuts (weight_pairs m.weights)) (mixed_gain p cuts m.denom (weight_pairs m.weights)) b) wanted
     ∙ pairs_counted n p cuts m b made below
+
+-- by the number of hubs that is wanted, if one is
+pub leaf_for : (p : Problem) (wanted : Option ℕ) (cuts : List Cut) (m : Weighting) (b : Branching) → p.wanted ≡ wanted → IsWeightingOf p cuts m
+    → IsBranchBelow p.size b → leaf_bound p cuts m.denom (weight_pairs m.weights) b ≡ bound_for wanted m b
+leaf_for p None cuts m b any made below = leaf_has_bound p cuts m b any made below
+leaf_for p (Some n) cuts m b wanted made below = leaf_counted n p cuts m b wanted made below

@@ -1,9 +1,9 @@
 pub mod GivenPools
 pub mod PoolLoads
 pub mod PoolNumbers
+pub mod Sides
 pub mod Weighed
 pub mod MasterNumbers
-pub mod Sides
 pub mod Points
 pub mod Choosing
 pub mod LeafPairs

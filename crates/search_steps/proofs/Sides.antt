@@ -41,10 +41,14 @@ by_tests k true opened = refl
 by_tests k false true = refl
 by_tests k false false = refl
 
--- the sides that a test of the children gives, where it is the search's test of them
+-- the sides that a test of the children gives
+abbrev pub sides_by : (Branching → Bool) → Branching → List (ℕ × Side)
+sides_by closes b = filter_map (λ k. option_map (λ side. (k, side)) (side_when (closes (closed_child b k)) (closes (open_child b k)))) b.free
+
+-- they are the search's where it is the search's test of them
 pub sides_are : (p : Problem) (s : State) (b : Branching) (w : List (ℕ × ℕ)) (closes : Branching → Bool) → IsBranch p b
     → ((c : Branching) → IsBranch p c → closes c ≡ closes_at p s c w)
-    → sides_as (filter_map (λ k. option_map (λ side. (k, side)) (side_when (closes (closed_child b k)) (closes (open_child b k)))) b.free) ≡ fixings p s b w
+    → sides_as (sides_by closes b) ≡ fixings p s b w
 unfolding fixings fixing fixed_side
 sides_are p s b w closes is same =
     let side : Bool → Bool → ℕ → Option (ℕ × steps.Side) =

@@ -1,9 +1,9 @@
 -- The start of a search.
-use Rattle.std.proofs.Common.{◌≡◌, ◌≢◌, ℕ, ◌≤◌, true, false, not, nat_eq, List, [], ◌∷◌, ◌++◌, length, take, filter, All, Option, Some, None, refl, ap, ap₂, sym, subst, ◌∙◌, arith}
+use Rattle.std.proofs.Common.{◌≡◌, ◌≢◌, ℕ, ◌<◌, ◌≤◌, true, false, not, nat_eq, List, [], ◌∷◌, ◌++◌, length, take, filter, All, Option, Some, None, refl, ap, ap₂, sym, subst, ◌∙◌, ne_eqb, arith}
 use Rattle.std.proofs.lemmas.List.{length-map, length-take-le}
 use Rattle.std.proofs.lemmas.List.Elements.{All-nil, All-cons, All-head, All-tail}
 use Rattle.std.proofs.lemmas.Bool.{eqb-false}
-use Rattle.std.proofs.lemmas.Option.{same_Some, none-some}
+use Rattle.std.proofs.lemmas.Option.{same_Some}
 use Rattle.std.specs.Prelude.{IfSome}
 use Rattle.hub_spec.proofs.SumLemmas.{by_test}
 use Rattle.hub_spec.specs.Limits.{most_cost}
@@ -16,6 +16,7 @@ use Rattle.cut_pool.specs.Entries.{Entry, Lacks}
 use Rattle.search_spec.specs.States.{State}
 use Rattle.search_spec.specs.Steps.{begun}
 use Rattle.search_spec.specs.Choices.{others, has_node, begun_for}
+use Rattle.search_spec.specs.Costs.{least_of, first_hubs}
 use Rattle.search_spec.proofs.RuleParts.{has_when}
 use Rattle.search_steps.specs.Pools.{IsSumsOf, pool_sets, pool_cuts, pool_marks, state_by}
 use Rattle.search_core.specs.declared.tasks.Task.{Task}
@@ -25,9 +26,8 @@ use Rattle.search_steps.specs.Advising.{parts_of}
 use Rattle.search_steps.specs.Kinds.{CutKind, minimal, parts_for}
 use Rattle.search_steps.specs.Progressing.{state_of, IsGoing}
 use Rattle.search_steps.specs.Separating.{HasCut}
-use Rattle.search_steps.specs.Starts.{least_wanted, first_set}
 use Rattle.search_steps.proofs.RuleChoices.{parts_sound}
-use Rattle.search_steps.proofs.FoundCertificates.{IsSearchable, start_for_is}
+use Rattle.search_steps.proofs.FoundCertificates.{start_for_is}
 use Rattle.search_steps.proofs.Orders.{parts_ascending}
 use Rattle.search_steps.proofs.AddedCuts.{more_sets, more_cuts, more_marks, more_pool, more_long, HasSameTree, cut_going}
 
@@ -86,20 +86,23 @@ first_going kind t after set order ok cut is_set hubs none one =
 -- ---- the first set
 
 -- the set has the least candidates, as many as are wanted, which are not all
-record IsLeast (p : Problem) (set : List ℕ) : Type 0 where
+pub record IsLeast (p : Problem) (set : List ℕ) : Type 0 where
   n : ℕ
   wanted : p.wanted ≡ Some n
   part : nat_eq n (length p.candidates) ≡ false
   is : set ≡ take n p.candidates
 
-least_is : (p : Problem) (set : List ℕ) → Some set ≡ first_set p → IsLeast p set
-least_is p set told = by p.wanted refl told
+pub least_is : (p : Problem) (set : List ℕ) → set ≡ first_hubs p → length set < length p.candidates → IsLeast p set
+least_is p set told fewer = by p.wanted refl told
   where
-    by : (wanted : Option ℕ) → p.wanted ≡ wanted → Some set ≡ least_wanted wanted p.candidates → IsLeast p set
-    by None e told = absurd (none-some set (sym told))
-    by (Some n) e told =
-        by_test (nat_eq n (length p.candidates)) (λ t. absurd (none-some set (sym (rw t at told))))
-        (λ t. record { n = n; wanted = e; part = t; is = same_Some set (take n p.candidates) (rw t at told) })
+    by : (wanted : Option ℕ) → p.wanted ≡ wanted → set ≡ least_of wanted p.candidates → IsLeast p set
+    by None e same = absurd (omega (arith, fewer, ap length same))
+    by (Some n) e same = record {
+      n = n;
+      wanted = e;
+      part = ne_eqb n (length p.candidates) (λ all. omega (arith, fewer, ap length same, all, length-take-le n p.candidates (omega (arith, all))));
+      is = same;
+    }
 
 -- the state that a search begins with, where there is one
 start_least : (kind : CutKind) (p : Problem) (set : List ℕ) (least : IsLeast p set)
@@ -117,34 +120,34 @@ start_least kind p set least =
     ap (λ (o : Option ℕ). begun_for p (parts_for kind p) o) least.wanted ∙ rw part refl
 
 -- and where there is none
-pub begun_alone : (kind : CutKind) (p : Problem) → None ≡ first_set p → begun p (parts_for kind p) ≡ begun_for p (parts_for kind p) p.wanted
+pub begun_alone : (kind : CutKind) (p : Problem) → IsProblem p → (length (first_hubs p) < length p.candidates → ⊥)
+    → begun p (parts_for kind p) ≡ begun_for p (parts_for kind p) p.wanted
 unfolding begun_for
-begun_alone kind p told = by p.wanted refl told
+begun_alone kind p ok all = by p.wanted refl
   where
     whole : (n : ℕ) → nat_eq n (length p.candidates) ≡ true → begun p (parts_for kind p) ≡ begun_for p (parts_for kind p) (Some n)
     whole n t = rw t refl
 
-    by : (wanted : Option ℕ) → p.wanted ≡ wanted → None ≡ least_wanted wanted p.candidates
-        → begun p (parts_for kind p) ≡ begun_for p (parts_for kind p) p.wanted
-    by None e told = ap (λ (o : Option ℕ). begun_for p (parts_for kind p) o) (sym e)
-    by (Some n) e told =
+    by : (wanted : Option ℕ) → p.wanted ≡ wanted → begun p (parts_for kind p) ≡ begun_for p (parts_for kind p) p.wanted
+    by None e = ap (λ (o : Option ℕ). begun_for p (parts_for kind p) o) (sym e)
+    by (Some n) e =
+        let limit = subst (λ (o : Option ℕ). IfSome o (λ n. (1 ≤ n) × (n ≤ length p.candidates))) e ok.wanted_limit in
+        let many = ap (λ (o : Option ℕ). length (least_of o p.candidates)) e ∙ length-take-le n p.candidates limit.1 in
         by_test (nat_eq n (length p.candidates)) (λ t. whole n t ∙ ap (λ (o : Option ℕ). begun_for p (parts_for kind p) o) (sym e))
-        (λ t. absurd (none-some (take n p.candidates) (rw t at told)))
+        (λ t. absurd (all (omega (arith, many, limit.1, eqb-false n (length p.candidates) t))))
 
-pub first_is_set : (p : Problem) (set : List ℕ) → IsSearchable p → Some set ≡ first_set p → IsHubSet p set
-first_is_set p set ok told =
-    let least = least_is p set told in
-    subst (IsHubSet p) (sym least.is)
-    (subst (λ (s : State). IsHubSet p s.hubs) (start_least minimal p set least) (start_for_is minimal p ok).state.hubs.is_set)
+pub least_set : (p : Problem) (hubs set : List ℕ) → IsProblem p → IsHubSet p p.candidates → IsLeast p hubs → set ≡ hubs → IsHubSet p set
+least_set p hubs set ok all least same =
+    let start = start_for_is minimal p (record { problem = ok; lacks_none = all }) in
+    subst (IsHubSet p) (sym (same ∙ least.is)) (subst (λ (s : State). IsHubSet p s.hubs) (start_least minimal p hubs least) start.state.hubs.is_set)
 
 pub second_state : (kind : CutKind) (p : Problem) (kept more : List Entry) (set order hubs old : List ℕ) (price cost made : ℕ) (stop : Option ℕ)
     → IsProblem p → IsHubSet p set → state_by p kept old cost made stop ≡ begun p (parts_for kind p) → HasCut kind p kept more set order price
-    → Some set ≡ first_set p → order ≡ others p set → hubs ≡ set
+    → IsLeast p set → order ≡ others p set → hubs ≡ set
     → state_by p more hubs price made stop ≡ begun_for p (parts_for kind p) p.wanted
 unfolding begun
-second_state kind p kept more set order hubs old price cost made stop ok is_set start cut told outside same =
+second_state kind p kept more set order hubs old price cost made stop ok is_set start cut least outside same =
     let parts = parts_for kind p in
-    let least = least_is p set told in
     let first = take least.n p.candidates in
     let sets : pool_sets more ≡ Some p.candidates ∷ Some first ∷ [] =
     more_sets kind p kept more set order price ok is_set cut ∙ ap (λ (s : State). s.sets ++ Some set ∷ []) start
@@ -177,11 +180,10 @@ lacks_by (e ∷ es) set apart =
     (lacks_by es set (All-tail (λ (s : Option (List ℕ)). s ≢ Some set) (kept_set e.cut) (pool_sets es) apart))
 
 -- it has no cut yet
-pub first_is_new : (kind : CutKind) (p : Problem) (entries : List Entry) (set old : List ℕ) (cost made : ℕ) (stop : Option ℕ) → IsProblem p → Some set ≡ first_set p
+pub first_is_new : (kind : CutKind) (p : Problem) (entries : List Entry) (set old : List ℕ) (cost made : ℕ) (stop : Option ℕ) → IsProblem p → IsLeast p set
     → state_by p entries old cost made stop ≡ begun p (parts_for kind p) → Lacks entries set
 unfolding begun
-first_is_new kind p entries set old cost made stop ok told start =
-    let least = least_is p set told in
+first_is_new kind p entries set old cost made stop ok least start =
     let limit = subst (λ (o : Option ℕ). IfSome o (λ n. (1 ≤ n) × (n ≤ length p.candidates))) least.wanted ok.wanted_limit in
     let many = length-take-le least.n p.candidates limit.1 in
     lacks_by entries set (subst (All (λ (s : Option (List ℕ)). s ≢ Some set)) (sym (ap (λ (s : State). s.sets) start))

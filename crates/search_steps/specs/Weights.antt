@@ -1,6 +1,6 @@
 -- What a node of the search has in code, and what it stands for.
 use Rattle.std.specs.Prelude.{◌≡◌, ℕ, ◌≤◌, List, map, length, sum, All}
-use Rattle.hub_spec.specs.Problem.{Problem}
+use Rattle.hub_spec.specs.Problem.{IsProblem}
 use Rattle.leaf_bound.specs.declared.weightings.Weighting.{Weighting}
 use Rattle.leaf_bound.specs.Bounds.{AreMultiples}
 use Rattle.leaf_bound.specs.Numbers.{rows_of}
@@ -29,13 +29,15 @@ pub record AreWeighed (n : NodeWeights) : Type 0 where
 abbrev pub pairs_of : List ℕ → List (ℕ × ℕ)
 pairs_of weights = weight_pairs weights
 
--- the weighting has the sums and the parts of the pool's entries, the problem's fixed costs and these weights
-pub record IsNodeWeighting (p : Problem) (entries : List Entry) (weights : List ℕ) (m : Weighting) : Type 0 where
-  pub are_totals : m.totals.now ≡ map (λ e. e.total) entries
-  pub are_loads : rows_of m ≡ map (λ e. e.loads) entries
-  pub are_parts : m.parts.now ≡ map entry_part entries
-  pub are_fixed : m.fixed.now ≡ p.fixed_costs
-  pub are_weights : m.weights.now ≡ weights
+-- the weighting has the sums and the parts of the pool's entries, the problem's fixed costs and the weights of the node
+pub record IsLentBy (n : NodeWeights) (m : Weighting) : Type 0 where
+  pub problem : IsProblem n.instance.now
+  pub weighed : AreWeighed n
+  pub are_totals : m.totals.now ≡ map (λ e. e.total) n.pool.now.entries
+  pub are_loads : rows_of m ≡ map (λ e. e.loads) n.pool.now.entries
+  pub are_parts : m.parts.now ≡ map entry_part n.pool.now.entries
+  pub are_fixed : m.fixed.now ≡ n.instance.now.fixed_costs
+  pub are_weights : m.weights.now ≡ n.weights.now
   pub is_denom : m.denom ≡ denominator
 
 -- the side as the search has it

@@ -5,9 +5,9 @@
 //! greater bound, and `closes` whether a bound fathoms at the incumbent's cost. `nearest` chooses the candidate nearest to
 //! a half to branch on, and `leaf_line` writes a leaf.
 //!
-//! A [`Rule`] answers what depends on the plans that are wanted: the first incumbent, how a branch ends, its only hub set,
-//! bounds, fixing, the hub set that is separated, and the fixed costs of the master. [`Plain`] is for any number of hubs,
-//! [`Counted`] for exactly p.
+//! A [`Rule`] answers what depends on the plans that are wanted: how a branch ends, its only hub set, bounds, fixing, the hub
+//! set that is separated, and the fixed costs of the master. It tells how many hubs are wanted, and each answer is by that
+//! number (`p_hub`). [`Plain`] is for any number of hubs, [`Counted`] for exactly p.
 //!
 //! [`Progress`] is the state of a search's definition (`search_spec`), with the lines of the tree that are finished.
 //! [`begin`] separates the sets with which a rule begins, [`separate`] a set, whose cut becomes the next of the pool
@@ -29,14 +29,11 @@ mod advising;
 mod asking;
 mod bounding;
 mod coring;
-mod counted;
 mod finishing;
 mod kind_laws;
 mod laws;
 mod leaves;
-mod openings;
 mod picking;
-mod plain;
 mod progress;
 mod rules;
 mod separating;
@@ -49,15 +46,13 @@ pub use advising::node_advice;
 pub use asking::{Separated, Separator};
 pub use bounding::{closes, is_better};
 pub use coring::Coring;
-pub use counted::Counted;
 pub use finishing::finish;
 pub use kind_laws::{kept_is_of_set, minimal_is_rule, parts_are_sound};
 pub use laws::{advising_is_sound, greatest_is_one, nearest_is_one, picked_is_one};
 pub use leaves::leaf_line;
 pub use picking::nearest;
-pub use plain::Plain;
 pub use progress::{Progress, may_split, two_more};
-pub use rules::Rule;
+pub use rules::{Counted, Plain, Rule};
 pub use separating::{keep, number_of, separate};
 pub use solos::Solo;
 pub use starting::begin;

@@ -1,25 +1,46 @@
 //! The hub set to separate, and the node to branch on, by the master's point.
 
-ghost use Rattle.std.specs.Prelude.{◌≡◌, ◌≤◌, ◌&&◌, ◌||◌, ◌+◌, ◌*◌, ◌*ℤ◌, ◌-ℤ◌, pos, length, slice_index_or, unsigned_abs, int_le, int_lt, nat_lt, Contains, IfOk};
+ghost use Rattle.std.specs.Prelude.{◌≡◌, ◌≤◌, ◌&&◌, ◌||◌, ◌+◌, ◌*◌, ◌*ℤ◌, ◌-ℤ◌, pos, length, slice_index_or, unsigned_abs, int_le, int_lt, nat_lt, Contains, None, IfOk};
 ghost use Rattle.std.specs.Int.{int_rem_euclid};
 ghost use Rattle.std.specs.List.Sorted.{IsStrictlyIncreasing};
 ghost use Rattle.hub_spec.specs.Problem.{IsProblem};
 ghost use Rattle.hub_spec.specs.Plans.{IsCandidateSet};
 ghost use Rattle.hub_spec.specs.Trees.{IsBranch};
 ghost use Rattle.hub_model.specs.Amounts.{natural};
-ghost use Rattle.search_spec.specs.Choices.{has_node, first_best, is_half, rounded, picked, nearest_half, from_half};
+ghost use Rattle.search_spec.specs.Choices.{has_node, first_best, is_half, rounded, picked, pick_for, nearest_half, from_half};
 ghost use Rattle.frac_master.specs.Advice.{advice_of_code};
 ghost use Rattle.search_steps.specs.Advising.{told_by};
 
+use assign_sub::lacking;
 use frac_master::Advice;
-use hub_model::{Branch, Instance, unsigned};
+use hub_model::{Branch, HubSet, Instance, unsigned};
+use p_hub::all_open;
 use std::alloc::{AllocError, Global};
 
-/// The hubs of the branch, and its free nodes whose point is at least half of the scale; where that is no node, the free
-/// node with the greatest point, of equal ones the least.
-///
-/// The answer is `AllocError` where memory runs out.
-pub(crate) fn pick(
+/// The hub set to separate where any number of hubs will do: the nodes that are picked, or where they lack a commodity all
+/// open nodes. The branch has a free node.
+pub(crate) fn pick_any(
+    alloc: Global,
+    instance: &Instance,
+    advice: &Advice,
+    branch: &Branch,
+) -> Result<HubSet, AllocError>
+    requires branch { IsBranch instance.now branch.now }
+    requires some_free { 1 ≤ length branch.now.free }
+    ensures { let a = told_by (advice_of_code advice.now) in IfOk result (λ set. set ≡ pick_for instance.now None a branch.now) }
+{
+    let picked = picked(alloc, instance, advice, branch)?;
+    let set = HubSet::of(alloc, &picked)?;
+    if lacking(instance, &set).is_none() {
+        return Ok(set);
+    }
+    let open = all_open(alloc, branch)?;
+    HubSet::of(alloc, &open)
+}
+
+// The hubs of the branch, and its free nodes whose point is at least half of the scale; where that is no node, the free
+// node with the greatest point, of equal ones the least.
+fn picked(
     alloc: Global,
     instance: &Instance,
     advice: &Advice,
@@ -59,8 +80,8 @@ fn is_rounded(advice: &Advice, branch: &Branch, k: u32) -> bool
     has_node(branch.inside(), k) || (has_node(branch.free(), k) && is_half(advice, k))
 }
 
-/// Whether the ascending list has the node.
-pub(crate) fn has_node(nodes: &[u32], k: u32) -> bool
+// Whether the ascending list has the node.
+fn has_node(nodes: &[u32], k: u32) -> bool
     requires { IsStrictlyIncreasing nodes.now }
     ensures { result ≡ has_node nodes.now k }
 {

@@ -1,31 +1,30 @@
 //! The start of a search.
 
-ghost use Rattle.std.specs.Prelude.{◌≡◌, [], Some, IfOk, OnOk};
+ghost use Rattle.std.specs.Prelude.{◌≡◌, ◌<◌, [], length, IfOk, OnOk};
 ghost use Rattle.hub_spec.specs.Plans.{IsHubSet};
 ghost use Rattle.search_spec.specs.Steps.{begun};
 ghost use Rattle.search_spec.specs.Choices.{begun_for};
+ghost use Rattle.search_spec.specs.Costs.{first_hubs};
 ghost use Rattle.search_steps.specs.Kinds.{parts_for};
-ghost use Rattle.search_steps.specs.Starts.{first_set};
 ghost use Rattle.cut_pool.specs.Findings.{lines_of};
 ghost use Rattle.search_steps.specs.Progressing.{state_of, IsGoing};
 
+use crate::Separator;
 use crate::progress::Progress;
 use crate::separating::add_cut;
-use crate::{Rule, Separator};
 use cut_pool::Pool;
 use hub_model::{HubSet, outside};
+use p_hub::first_hubs;
 use search_core::Task;
 use std::alloc::{AllocError, Global};
 
-/// The first state of a search. Its pool has the cut of the set of all candidates, and that of the rule's first set, if
-/// there is one. The last of them is the first incumbent.
-pub fn begin<R: Rule, S: Separator>(
+/// The first state of a search. Its pool has the cut of the set of all candidates, and where fewer hubs are wanted that of
+/// as many of the least candidates. The last of them is the first incumbent.
+pub fn begin<S: Separator>(
     alloc: Global,
-    rule: &R,
     task: &Task,
     separator: &mut S,
 ) -> Result<Progress, AllocError>
-    requires serves { R.serves rule.now task.now.instance.now }
     requires lacks_none { IsHubSet task.now.instance.now task.now.instance.now.candidates }
     requires ready { S.ready separator.old }
     ensures ready { S.ready separator.new }
@@ -35,8 +34,9 @@ pub fn begin<R: Rule, S: Separator>(
     ensures going { IfOk result (IsGoing task.now) }
 {
     let mut progress = begin_with_all(alloc, task, separator)?;
-    if let Some(hubs) = rule.first_set(alloc, task.instance)? {
-        take_first(alloc, task, &mut progress, separator, &hubs)?;
+    let hubs = first_hubs(task.instance);
+    if hubs.len() < task.instance.candidates().len() {
+        take_first(alloc, task, &mut progress, separator, hubs)?;
     }
     Ok(progress)
 }
@@ -70,8 +70,8 @@ fn begin_with_all<S: Separator>(
     })
 }
 
-// Adds the cut of the rule's first set, which becomes the incumbent whatever it costs, since that of all candidates is
-// not wanted.
+// Adds the cut of the least candidates, as many as are wanted, which become the incumbent whatever they cost, since all
+// candidates are not wanted.
 fn take_first<S: Separator>(
     alloc: Global,
     task: &Task,
@@ -83,7 +83,8 @@ fn take_first<S: Separator>(
     requires ready { S.ready separator.old }
     requires begun { let p = task.now.instance.now in state_of p progress.old ≡ begun p (parts_for S.kind p) }
     requires going { IsGoing task.now progress.old }
-    requires first { Some hubs.now ≡ first_set task.now.instance.now }
+    requires first { hubs.now ≡ first_hubs task.now.instance.now }
+    requires fewer { length hubs.now < length task.now.instance.now.candidates }
     ensures ready { S.ready separator.new }
     ensures begun { let p = task.now.instance.now in
         OnOk result (state_of p progress.new ≡ begun_for p (parts_for S.kind p) p.wanted) }

@@ -1,7 +1,6 @@
 //! The data of the bounds at a node.
 
-ghost use Rattle.hub_spec.specs.Problem.{IsProblem};
-ghost use Rattle.search_steps.specs.Weights.{IsNodeWeighting};
+ghost use Rattle.search_steps.specs.Weights.{AreWeighed, IsLentBy};
 
 use cut_pool::Pool;
 use hub_model::Instance;
@@ -22,8 +21,8 @@ pub struct NodeWeights<'a> {
 impl<'a> NodeWeights<'a> {
     /// What the bounds under these weights are made of, with the numbers that the pool lends.
     pub(crate) fn weighting(&self) -> Weighting<'a>
-        ensures problem { IsProblem self.now.instance.now }
-        ensures lent { IsNodeWeighting self.now.instance.now self.now.pool.now.entries self.now.weights.now result }
+        requires { AreWeighed self.now }
+        ensures { IsLentBy self.now result }
     {
         Weighting {
             totals: self.pool.totals(),

@@ -18,7 +18,7 @@ use hub_model::{Branch, HubSet, Instance, outside};
 use leaf_bound::Side;
 use node_rounds::{Outcome, Pending, search_rounds, turn, turns};
 use search_core::Task;
-use search_steps::{Plain, Progress, Solo, begin, number_of, separate};
+use search_steps::{Progress, Solo, begin, number_of, separate};
 use std::alloc::{AllocError, Global};
 use std::test::Fail;
 use std::thread::Threads;
@@ -68,7 +68,7 @@ fn begun_by(alloc: Global, task: &Task) -> Result<Progress, Fail>
     ensures { IfOk result (IsGoing task.now) }
 {
     let mut separator = Solo::new(alloc, task.instance)?;
-    let mut progress = begin(alloc, &Plain, task, &mut separator)?;
+    let mut progress = begin(alloc, task, &mut separator)?;
     let set = first_alone(alloc, task.instance)?;
     separate_new(alloc, task, &mut progress, &mut separator, set)?;
     Ok(progress)

@@ -1,5 +1,0 @@
-use Rattle.std.proofs.Common.{◌≡◌, ◌+◌, ◌/◌, ℕ, map, take}
-use Rattle.search_steps.proofs.counted.CountedRule.advised_costs.Given as goal
-
-abbrev pub invariant-loop-own : goal.invariant-loop-own
-invariant-loop-own l = l.room.items ≡ map (λ (f : ℕ). f + l.cost / l.self.hubs) (take l.own-index l.fixed)
