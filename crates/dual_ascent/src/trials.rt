@@ -55,13 +55,12 @@ impl Trial {
         }
     }
 
-    /// What a pass at these terms raises, over the listed commodities that could gain where the place is opened, or closed. The
+    /// What a pass at its terms raises, over the listed commodities that could gain where the place is opened, or closed. The
     /// duals are as before then.
     pub fn rise<R: Threads + Sync>(
         &self,
         workers: &Workers<'_, R>,
         lengths: &Lengths,
-        terms: Terms<'_>,
         bench: &mut Bench,
         state: &mut State,
         tried: Tried<'_>,
@@ -72,6 +71,7 @@ impl Trial {
             found,
             listed,
             turned,
+            terms,
         } = tried;
         state.leave_out_others(lengths, found, listed, turned);
         let before = state.objective(terms);
@@ -91,4 +91,6 @@ pub struct Tried<'a> {
     pub listed: &'a [usize],
     /// The place that is opened or closed.
     pub turned: Turned,
+    /// The terms, by which it is.
+    pub terms: Terms<'a>,
 }
