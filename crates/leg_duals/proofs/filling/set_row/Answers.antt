@@ -24,7 +24,7 @@ places-preserved c =
     (leg_value p c.args.factor c.args.from k (stop_node hubs order m) row (sym (place_node hubs order m c.places-test.true))
     (c.distances_from-distances.ensures.each k node)) c.places.invariant
 
-pub hubs-preserved : goal.stops.hubs.now-preserved
+pub hubs-preserved : goal.hubs-preserved
 hubs-preserved c =
     let p = c.args.instance.now in
     let hubs = c.args.stops.now.hubs.now in
