@@ -5,11 +5,20 @@ ghost use Rattle.hub_spec.specs.Problem.{flow};
 ghost use Rattle.hub_spec.specs.Edges.{least_cost};
 ghost use Rattle.hub_spec.specs.Plans.{IsHubSet};
 ghost use Rattle.core_spec.specs.CoreCuts.{pair_cost};
+ghost use Rattle.core_cuts.specs.Ahead.{IsAnyLength};
 ghost use Rattle.core_cuts.specs.CoreTables.{is_needed, edge_right};
 ghost use Rattle.core_cuts.specs.Bodies.{most_unit};
 
 use hub_model::{Instance, least_route};
 use std::alloc::{AllocError, Global};
+
+/// The commodity from `i` to `j`.
+#[derive(Clone, Copy)]
+pub(crate) struct Commodity<'a> {
+    pub(crate) instance: &'a Instance,
+    pub(crate) i: u32,
+    pub(crate) j: u32,
+}
 
 /// Each node as a single hub.
 pub(crate) fn single_hubs(alloc: Global, nodes: &[u32]) -> Result<Vec<(u32, u32)>, AllocError>
@@ -52,26 +61,23 @@ fn single_cost(instance: &Instance, i: u32, j: u32, k: u32) -> u128
 
 /// What the hub edge of `k` and `m` costs by unit of flow, if it is needed: if it costs less than each of its single hubs.
 pub(crate) fn needed_right(
-    instance: &Instance,
-    i: u32,
-    j: u32,
+    commodity: &Commodity<'_>,
     k: u32,
     m: u32,
     at_k: u128,
     at_m: u128,
 ) -> Option<u64>
-    requires any_length { instance.now.longest ≡ None }
-    requires from { i < instance.now.size }
-    requires to { j < instance.now.size }
-    requires first { k < instance.now.size }
-    requires last { m < instance.now.size }
-    requires at_k { at_k ≡ pair_cost instance.now (i, j) k k }
-    requires at_m { at_m ≡ pair_cost instance.now (i, j) m m }
-    ensures needed { IfSome result (λ right. is_needed instance.now (i, j) (k, m) ≡ true) }
-    ensures value { IfSome result (λ right. right ≡ edge_right instance.now (i, j) (k, m)) }
+    requires commodity { IsAnyLength commodity.now }
+    requires first { k < commodity.now.instance.now.size }
+    requires last { m < commodity.now.instance.now.size }
+    requires at_k { let c = commodity.now in at_k ≡ pair_cost c.instance.now (c.i, c.j) k k }
+    requires at_m { let c = commodity.now in at_m ≡ pair_cost c.instance.now (c.i, c.j) m m }
+    ensures needed { let c = commodity.now in IfSome result (λ right. is_needed c.instance.now (c.i, c.j) (k, m) ≡ true) }
+    ensures value { let c = commodity.now in IfSome result (λ right. right ≡ edge_right c.instance.now (c.i, c.j) (k, m)) }
     ensures limit { IfSome result (λ right. right ≤ most_unit) }
-    ensures none { result ≡ None → is_needed instance.now (i, j) (k, m) ≡ false }
+    ensures none { let c = commodity.now in result ≡ None → is_needed c.instance.now (c.i, c.j) (k, m) ≡ false }
 {
+    let Commodity { instance, i, j } = *commodity;
     let _ = instance.size();
     let cost = pair_cost(instance, i, j, k, m);
     if cost < at_k && cost < at_m {

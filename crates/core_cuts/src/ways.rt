@@ -3,10 +3,10 @@
 ghost use Rattle.std.specs.Prelude.{◌≡◌, ◌↔◌, ◌<◌, ◌≤◌, ◌++◌, ◌∷◌, [], None, map, filter, pos, All, IfOk, OnOk, IsTrue};
 ghost use Rattle.core_spec.specs.CoreCuts.{pair_cost};
 ghost use Rattle.core_cuts.specs.CoreTables.{is_needed};
-ghost use Rattle.core_cuts.specs.Ahead.{AreCosts, AreWays};
+ghost use Rattle.core_cuts.specs.Ahead.{AreCosts, AreWays, IsAnyLength};
 ghost use Rattle.core_cuts.specs.Bodies.{most_unit};
 
-use crate::edges::{needed_right, single_costs, single_hubs, unit_costs};
+use crate::edges::{Commodity, needed_right, single_costs, single_hubs, unit_costs};
 use hub_model::Instance;
 use std::alloc::{AllocError, Global};
 
@@ -30,16 +30,10 @@ impl Ways {
         let costs = single_costs(alloc, instance, i, j, candidates)?;
         let rights = unit_costs(alloc, &costs, instance.flow_between(i, j))?;
         let mut ways = Ways { edges, rights };
+        let commodity = Commodity { instance, i, j };
         for x in 0..candidates.len() {
-            ways.add_needed(
-                instance,
-                i,
-                j,
-                candidates[x],
-                costs[x],
-                &candidates[x + 1..],
-                &costs[x + 1..],
-            )?;
+            let later = &candidates[x + 1..];
+            ways.add_needed(&commodity, candidates[x], costs[x], later, &costs[x + 1..])?;
         }
         Ok(ways)
     }
@@ -47,28 +41,25 @@ impl Ways {
     /// Adds the needed edges of `k` and these later candidates. Each costs that much as a single hub.
     fn add_needed(
         &mut self,
-        instance: &Instance,
-        i: u32,
-        j: u32,
+        commodity: &Commodity<'_>,
         k: u32,
         at_k: u128,
         later: &[u32],
         at_later: &[u128],
     ) -> Result<(), AllocError>
-        requires any_length { instance.now.longest ≡ None }
-        requires from { i < instance.now.size }
-        requires to { j < instance.now.size }
-        requires first { k < instance.now.size }
-        requires later { All (λ m. m < instance.now.size) later.now }
-        requires at_k { at_k ≡ pair_cost instance.now (i, j) k k }
-        requires at_later { at_later.now ≡ map (λ m. pair_cost instance.now (i, j) m m) later.now }
-        requires costs { AreCosts instance.now (i, j) self.old.edges.items self.old.rights.items }
-        ensures edges { OnOk result (self.new.edges.items
-            ≡ self.old.edges.items ++ filter (is_needed instance.now (i, j)) (map (λ m. (k, m)) later.now)) }
-        ensures costs { OnOk result (AreCosts instance.now (i, j) self.new.edges.items self.new.rights.items) }
+        requires commodity { IsAnyLength commodity.now }
+        requires first { k < commodity.now.instance.now.size }
+        requires later { All (λ m. m < commodity.now.instance.now.size) later.now }
+        requires at_k { let c = commodity.now in at_k ≡ pair_cost c.instance.now (c.i, c.j) k k }
+        requires at_later { let c = commodity.now in at_later.now ≡ map (λ m. pair_cost c.instance.now (c.i, c.j) m m) later.now }
+        requires costs { let c = commodity.now in AreCosts c.instance.now (c.i, c.j) self.old.edges.items self.old.rights.items }
+        ensures edges { let c = commodity.now in OnOk result (self.new.edges.items
+            ≡ self.old.edges.items ++ filter (is_needed c.instance.now (c.i, c.j)) (map (λ m. (k, m)) later.now)) }
+        ensures costs { let c = commodity.now in
+            OnOk result (AreCosts c.instance.now (c.i, c.j) self.new.edges.items self.new.rights.items) }
     {
         for x in 0..later.len() {
-            match needed_right(instance, i, j, k, later[x], at_k, at_later[x]) {
+            match needed_right(commodity, k, later[x], at_k, at_later[x]) {
                 Some(right) => self.add(k, later[x], right)?,
                 None => {}
             }

@@ -102,15 +102,10 @@ impl Adviser {
                 place,
                 is_opened: side == Side::In,
             },
+            terms: self.node.terms(),
         };
-        let rise = trial.rise(
-            workers,
-            &self.lengths,
-            self.node.terms(),
-            &mut self.bench,
-            &mut self.state,
-            tried,
-        );
+        let (bench, state) = (&mut self.bench, &mut self.state);
+        let rise = trial.rise(workers, &self.lengths, bench, state, tried);
         put(&mut self.node.sides, place, Side::Free);
         rise
     }

@@ -56,13 +56,12 @@ impl Trial {
         }
     }
 
-    /// The rise of the objective by a pass at these terms, over the listed commodities that could gain where the place
+    /// The rise of the objective by a pass at its terms, over the listed commodities that could gain where the place
     /// changes sides. Afterwards the duals are as before.
     pub fn rise<R: Threads + Sync>(
         &self,
         workers: &Workers<'_, R>,
         lengths: &Lengths,
-        terms: Terms<'_>,
         bench: &mut Bench,
         state: &mut State,
         tried: Tried<'_>,
@@ -73,6 +72,7 @@ impl Trial {
             found,
             listed,
             turned,
+            terms,
         } = tried;
         state.leave_out_others(lengths, found, listed, turned);
         let before = state.objective(terms);
@@ -92,4 +92,6 @@ pub struct Tried<'a> {
     pub listed: &'a [usize],
     /// The place that changes sides.
     pub turned: Turned,
+    /// The terms of the pass.
+    pub terms: Terms<'a>,
 }

@@ -12,7 +12,7 @@ use cut_pool::PackedValues;
 use hub_model::Instance;
 use std::alloc::{AllocError, Global};
 use std::marker::Model;
-use value_cuts::{CandidateLegs, DualScratch, PriceScratch, price};
+use value_cuts::{CandidateLegs, DualScratch, ListedRow, PriceScratch, price};
 
 /// Room for the duals of an instance's cuts by values: the tables of its legs, the rows and the prices of an origin, and
 /// a dual.
@@ -88,9 +88,11 @@ impl<'a> ValueRoom<'a> {
         ensures dual { self.new.dual ≡ commodity_dual self.old.problem values.now (i, j) }
     {
         let price = self.prices[j as usize];
-        let row = row_at(&self.rows, j, self.tables.places());
-        self.made
-            .make(&self.tables, i, j, values.unit(), row, price);
+        let row = ListedRow {
+            unit: values.unit(),
+            row: row_at(&self.rows, j, self.tables.places()),
+        };
+        self.made.make(&self.tables, i, j, &row, price);
     }
 
     /// The price of the dual that was made last, and its nodes with their values, ascending, each value above 0.

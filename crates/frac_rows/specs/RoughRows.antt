@@ -1,8 +1,10 @@
 -- Rough rows, what their sums of products tell, and which variable is the first with a number below 0.
 use Rattle.std.specs.Prelude.{◌≡◌, ℕ, ◌+◌, ◌-◌, ◌^◌, ◌<◌, ◌≤◌, Bool, true, false, length, sum, List, Option, IfSome, ℤ, pos, ◌-ℤ◌, ◌*ℤ◌, ◌≤ℤ◌, unsigned_abs}
 use Rattle.std.specs.Int.{is_negative}
-use Rattle.frac_rows.specs.Rows.{widest, number}
-use Rattle.frac_rows.specs.Stored.{dot, standing, AreColumns}
+use Rattle.frac_rows.specs.Rows.{widest, number, AreNarrow}
+use Rattle.frac_rows.specs.Stored.{columns_of, dot, extended, reach, standing, AreColumns}
+use Rattle.frac_rows.specs.declared.rough_rows.RoughRow.{RoughRow}
+use Rattle.frac_rows.specs.declared.whole_rows.WholeRow.{WholeRow}
 
 -- how far, in steps, a rough sum is at most off: the tops together, where the rows are few and the tops small together
 pub record IsMargin (height : ℕ) (tops : List ℕ) (margin : ℤ) : Type 0 where
@@ -18,6 +20,25 @@ pub record AreSummed (height variables : ℕ) (numbers : List ℤ) (tops : List 
 -- the first numbers of the row are about d times those of the rough row
 pub record IsRough (d : ℕ) (row rough : List ℤ) : Type 0 where
   pub near : (k : ℕ) → k < length rough → unsigned_abs (number row k -ℤ pos d *ℤ number rough k) ≤ d
+
+-- the columns are such, and no number that is kept of the row is too great
+pub record IsKeptRow (w : WholeRow) : Type 0 where
+  pub columns : AreColumns (length w.row.now - 1) w.variables w.numbers.now w.tops.now
+  pub narrow : AreNarrow w.row.now
+
+-- the columns are such, with a constraint, and no number of the whole row is too great
+pub record IsWholeRow (w : WholeRow) : Type 0 where
+  pub some : 2 ≤ length w.row.now
+  pub columns : AreColumns (length w.row.now - 1) w.variables w.numbers.now w.tops.now
+  pub narrow : AreNarrow (extended (columns_of (length w.row.now - 1) w.variables w.numbers.now) w.row.now)
+
+-- the rough row is of the row, with the margin of its tops, and its sums fit 32 bits
+pub record IsRoughOf (w : WholeRow) (r : RoughRow) : Type 0 where
+  pub margin : IsMargin (length w.row.now - 1) w.tops.now r.margin
+  pub long : length r.numbers.now ≡ length w.tops.now
+  pub rough : IsRough r.step w.row.now r.numbers.now
+  pub within : reach r.numbers.now w.tops.now < 2 ^ 31
+  pub step : 1 ≤ r.step
 
 -- the row's number for the variable j
 abbrev pub number_of : ℕ → List ℤ → List ℤ → ℕ → ℤ

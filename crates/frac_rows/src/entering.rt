@@ -32,6 +32,13 @@ impl Entering<'_> {
     }
 }
 
+/// A pivot: the column that enters, and the row that it is made on.
+#[derive(Clone, Copy)]
+pub(crate) struct Pivot<'a> {
+    pub(crate) entering: Entering<'a>,
+    pub(crate) row: usize,
+}
+
 /// Writes the numbers of all rows in the column. Each is a sum over a column whose numbers stand far apart, so a pivot
 /// works them out but once.
 pub(crate) fn write_entering(

@@ -7,6 +7,7 @@ ghost use Rattle.frac_rows.specs.Starts.{start};
 ghost use Rattle.frac_rows.specs.Stored.{columns_of};
 
 use crate::columns::Columns;
+use crate::entering::{Entering, Pivot, write_entering};
 use crate::limits::MOST_PIVOTS;
 use crate::rough_rows::margin_of;
 use crate::starts::{first_rows, slacks, tops_of};
@@ -111,15 +112,16 @@ impl Rows {
         ensures err { OnErr result (is_wide (after_pivot self.old row column) ≡ true) }
         ensures err_same { OnErr result (self.new ≡ self.old) }
     {
-        self.denominator = moves::pivot(
+        write_entering(&self.columns, &self.numbers, column, &mut self.entering);
+        let numbers = &self.entering;
+        let entering = Entering { column, numbers };
+        self.denominator = moves::pivot_on(
             &self.columns,
             &mut self.numbers,
             &mut self.spare,
-            &mut self.entering,
             &mut self.basis,
+            &Pivot { entering, row },
             self.denominator,
-            row,
-            column,
         )?;
         Ok(())
     }

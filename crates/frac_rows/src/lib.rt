@@ -33,6 +33,7 @@ mod rough_rows;
 mod starts;
 mod steps;
 mod tables;
+mod whole_rows;
 mod widths;
 
 pub use ended::{Ended, Wide};

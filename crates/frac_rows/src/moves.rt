@@ -9,75 +9,42 @@ ghost use Rattle.frac_rows.specs.Steps.{AreEntering};
 use crate::choices::leaving;
 use crate::columns::Columns;
 use crate::divisors::Divisor;
-use crate::entering::{Entering, write_entering};
+use crate::entering::{Entering, Pivot, write_entering};
 use crate::parts::part;
 use crate::tables::next_rows;
 use crate::{Ended, Wide};
 
 /// Makes the pivot, unless the table after it would be wide, and tells what will divide all rows at the next one: the
 /// number that was pivoted on, or 0 where some row was divided by another number, so that nothing is known.
-pub(crate) fn pivot(
-    columns: &Columns,
-    numbers: &mut [i64],
-    spare: &mut [i64],
-    entering: &mut [i64],
-    basis: &mut [u32],
-    denominator: u64,
-    row: usize,
-    column: usize,
-) -> Result<u64, Wide>
-    requires stored { IsStored columns.now numbers.old basis.old }
-    requires room { length spare.old ≡ length numbers.old }
-    requires entering_room { length entering.old ≡ columns.now.height }
-    requires row { row < length basis.old }
-    requires column { column + 1 < length columns.now.columns + columns.now.height }
-    ensures stored { IsStored columns.now numbers.new basis.new }
-    ensures ok { OnOk result
-        (table_of columns.now numbers.new basis.new ≡ after_pivot (table_of columns.now numbers.old basis.old) row column) }
-    ensures narrow { OnOk result (is_wide (table_of columns.now numbers.new basis.new) ≡ false) }
-    ensures err { OnErr result
-        (is_wide (after_pivot (table_of columns.now numbers.old basis.old) row column) ≡ true) }
-    ensures same { OnErr result
-        (table_of columns.now numbers.new basis.new ≡ table_of columns.now numbers.old basis.old) }
-{
-    write_entering(columns, numbers, column, entering);
-    let entering = Entering {
-        column,
-        numbers: entering,
-    };
-    pivot_on(columns, numbers, spare, basis, &entering, denominator, row)
-}
-
-// The same pivot, where the column's numbers are known.
-fn pivot_on(
+pub(crate) fn pivot_on(
     columns: &Columns,
     numbers: &mut [i64],
     spare: &mut [i64],
     basis: &mut [u32],
-    entering: &Entering<'_>,
+    pivot: &Pivot<'_>,
     denominator: u64,
-    row: usize,
 ) -> Result<u64, Wide>
     requires stored { IsStored columns.now numbers.old basis.old }
     requires room { length spare.old ≡ length numbers.old }
-    requires row { row < length basis.old }
-    requires column { entering.now.column + 1 < length columns.now.columns + columns.now.height }
-    requires fits { entering.now.column < 2 ^ 32 }
-    requires entering { AreEntering columns.now numbers.old entering.now.column entering.now.numbers.now }
+    requires row { pivot.now.row < length basis.old }
+    requires column { pivot.now.entering.column + 1 < length columns.now.columns + columns.now.height }
+    requires fits { pivot.now.entering.column < 2 ^ 32 }
+    requires entering { AreEntering columns.now numbers.old pivot.now.entering.column pivot.now.entering.numbers.now }
     ensures stored { IsStored columns.now numbers.new basis.new }
     ensures ok { OnOk result (table_of columns.now numbers.new basis.new
-        ≡ after_pivot (table_of columns.now numbers.old basis.old) row entering.now.column) }
+        ≡ after_pivot (table_of columns.now numbers.old basis.old) pivot.now.row pivot.now.entering.column) }
     ensures narrow { OnOk result (is_wide (table_of columns.now numbers.new basis.new) ≡ false) }
     ensures err { OnErr result
-        (is_wide (after_pivot (table_of columns.now numbers.old basis.old) row entering.now.column) ≡ true) }
+        (is_wide (after_pivot (table_of columns.now numbers.old basis.old) pivot.now.row pivot.now.entering.column) ≡ true) }
     ensures same { OnErr result
         (table_of columns.now numbers.new basis.new ≡ table_of columns.now numbers.old basis.old) }
 {
     let by = Divisor::new(denominator);
-    let divided = next_rows(columns, &by, entering, row, numbers, spare)?;
+    let divided = next_rows(columns, &by, pivot, numbers, spare)?;
+    let row = pivot.row;
     numbers.copy_from_slice(spare);
-    basis[row] = entering.column as u32;
-    Ok(next_divisor(divided, entering.numbers[row]))
+    basis[row] = pivot.entering.column as u32;
+    Ok(next_divisor(divided, pivot.entering.numbers[row]))
 }
 
 // After a pivot by which all rows were divided alike, the number that was pivoted on divides all rows at the next one.
@@ -117,7 +84,8 @@ pub(crate) fn advance(
     let Some(row) = leaving(columns, numbers, basis, &entering) else {
         return (Some(Ended::Wide), denominator);
     };
-    match pivot_on(columns, numbers, spare, basis, &entering, denominator, row) {
+    let pivot = Pivot { entering, row };
+    match pivot_on(columns, numbers, spare, basis, &pivot, denominator) {
         Ok(next) => (None, next),
         Err(Wide) => (Some(Ended::Wide), denominator),
     }

@@ -17,6 +17,14 @@ pub(crate) const MOST_ROWS: usize = 256;
 /// How many columns are summed side by side.
 pub(crate) const LANES: usize = 32;
 
+/// A rough row, the step that goes into the row about so often, and how far, in steps, its sums are at most off.
+#[derive(Clone, Copy)]
+pub(crate) struct RoughRow<'a> {
+    pub(crate) numbers: &'a [i32],
+    pub(crate) step: u64,
+    pub(crate) margin: i32,
+}
+
 // The most that the tops may be together.
 const MOST_MARGIN: u64 = 1 << 30;
 

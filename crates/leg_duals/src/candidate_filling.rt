@@ -8,7 +8,7 @@ ghost use Rattle.unit_duals.specs.Cells.{IsTable};
 ghost use Rattle.hub_model.specs.CandidateLengths.{candidate_at, length_ceiling};
 ghost use Rattle.leg_duals.specs.CandidateLegs.{collection_length, trunk_length, delivery_length};
 
-use crate::filling::{set_row, set_trunk};
+use crate::filling::{Stops, set_row, set_trunk};
 use hub_model::Instance;
 
 /// The number of candidates.
@@ -54,8 +54,12 @@ pub(crate) fn set_collect(instance: &Instance, table: &mut [u64])
 {
     let factor = instance.collect();
     let candidates = instance.candidates();
+    let stops = Stops {
+        hubs: candidates,
+        order: &[],
+    };
     for i in 0..instance.size() {
-        set_row(instance, factor, i, candidates, &[], table, i as usize);
+        set_row(instance, factor, i, &stops, table, i as usize);
     }
 }
 

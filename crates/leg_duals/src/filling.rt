@@ -10,6 +10,15 @@ ghost use Rattle.leg_duals.specs.StopLegs.{stop_node, AreFirstLegsOf};
 
 use hub_model::Instance;
 
+/// The stops: the places of an order, then the hubs.
+#[derive(Clone, Copy)]
+pub struct Stops<'a> {
+    /// The hubs.
+    pub hubs: &'a [u32],
+    /// The nodes of the order.
+    pub order: &'a [u32],
+}
+
 /// Gives the vector this length, within its room.
 pub(crate) fn fit(items: &mut Vec<u64>, len: usize)
     requires { len ≤ vec_capacity items.old }
@@ -31,9 +40,10 @@ pub(crate) fn set_trunk(instance: &Instance, hubs: &[u32], order: &[u32], trunk:
     ensures limit { All (λ d. d ≤ most_leg) trunk.new }
 {
     let factor = instance.trunk();
+    let stops = Stops { hubs, order };
     for k in 0..order.len() + hubs.len() {
         let from = node_of(hubs, order, k);
-        set_row(instance, factor, from, hubs, order, trunk, k);
+        set_row(instance, factor, from, &stops, trunk, k);
     }
 }
 
@@ -67,7 +77,8 @@ pub(crate) fn set_first(instance: &Instance, hubs: &[u32], order: &[u32], i: u32
     requires long { length first.old ≡ length order.now + length hubs.now }
     ensures { AreFirstLegsOf instance.now hubs.now order.now i first.new }
 {
-    set_row(instance, instance.collect(), i, hubs, order, first, 0);
+    let stops = Stops { hubs, order };
+    set_row(instance, instance.collect(), i, &stops, first, 0);
 }
 
 /// Sets row `t` of a table to what this factor makes of the distances from a node to the stops.
@@ -75,21 +86,22 @@ pub(crate) fn set_row(
     instance: &Instance,
     factor: u64,
     from: u32,
-    hubs: &[u32],
-    order: &[u32],
+    stops: &Stops<'_>,
     table: &mut [u64],
     t: usize,
 )
     requires factor { factor ≤ most_factor }
     requires from { from < instance.now.size }
-    requires hubs { All (λ k. k < instance.now.size) hubs.now }
-    requires order { All (λ k. k < instance.now.size) order.now }
-    requires row { t * (length order.now + length hubs.now) + (length order.now + length hubs.now) ≤ length table.old }
-    ensures row { let stops = length order.now + length hubs.now in let node = stop_node hubs.now order.now in
-        IsRowSet stops t stops (λ m. factor * distance instance.now from (node m)) table.old table.new }
-    ensures limit { (m : ℕ) → m < length order.now + length hubs.now
-        → factor * distance instance.now from (stop_node hubs.now order.now m) ≤ most_leg }
+    requires hubs { All (λ k. k < instance.now.size) stops.now.hubs.now }
+    requires order { All (λ k. k < instance.now.size) stops.now.order.now }
+    requires row { let n = length stops.now.order.now + length stops.now.hubs.now in t * n + n ≤ length table.old }
+    ensures row { let n = length stops.now.order.now + length stops.now.hubs.now in
+        let node = stop_node stops.now.hubs.now stops.now.order.now in
+        IsRowSet n t n (λ m. factor * distance instance.now from (node m)) table.old table.new }
+    ensures limit { (m : ℕ) → m < length stops.now.order.now + length stops.now.hubs.now
+        → factor * distance instance.now from (stop_node stops.now.hubs.now stops.now.order.now m) ≤ most_leg }
 {
+    let Stops { hubs, order } = *stops;
     let distances = distances_from(instance, from);
     let at = t * (order.len() + hubs.len());
     let hubs_at = at + order.len();

@@ -34,6 +34,7 @@ mod ways;
 
 pub use candidate_legs::CandidateLegs;
 pub use duals::LimitedDuals;
+pub use filling::Stops;
 pub use first_legs::FirstLegs;
 pub use laws::{
     alone_costs_route, first_hub_serves_no_flow, first_route_is_least, hub_stops_are_hubs,

@@ -11,6 +11,7 @@ ghost use Rattle.leg_duals.specs.Ways.{IsWay, IsWayBeside, base, away, delivery,
 ghost use Rattle.leg_duals.specs.Lowered.{IsLowered};
 ghost use Rattle.leg_duals.specs.Parts.{AreWays};
 
+use crate::Stops;
 use crate::lowering::{lower, lower_beside};
 use hub_model::{Instance, MOST_LENGTH};
 use std::marker::Model;
@@ -42,25 +43,32 @@ impl<'a> Model for Ways<'a> {
 }
 
 impl<'a> Ways<'a> {
-    /// The routes from the node `origin` by the order and the hubs, to the destinations of the legs, from `start` on.
+    /// The routes from the node `origin` by the stops, to the destinations of the legs, from `start` on.
     /// `first` has the legs from the origin to the stops.
     pub fn new(
         instance: &'a Instance,
-        hubs: &'a [u32],
-        order: &'a [u32],
+        stops: Stops<'a>,
         start: u32,
         origin: u32,
         legs: &'a Legs<'a>,
         first: &'a [u64],
     ) -> Ways<'a>
-        requires set { IsHubSet instance.now hubs.now }
-        requires order { IsOrder instance.now hubs.now order.now }
+        requires set { IsHubSet instance.now stops.hubs.now }
+        requires order { IsOrder instance.now stops.hubs.now stops.order.now }
         requires origin { origin < instance.now.size }
-        requires legs { AreLegsOf instance.now hubs.now order.now start legs.now }
-        requires first { AreFirstLegsOf instance.now hubs.now order.now origin first.now }
-        ensures { result ≡ record { problem = instance.now; hubs = hubs.now; order = order.now; start = start; size = legs.now.size; origin = origin } }
+        requires legs { AreLegsOf instance.now stops.hubs.now stops.order.now start legs.now }
+        requires first { AreFirstLegsOf instance.now stops.hubs.now stops.order.now origin first.now }
+        ensures { let stops = stops.entry in result ≡ record {
+          problem = instance.now;
+          hubs = stops.hubs.now;
+          order = stops.order.now;
+          start = start;
+          size = legs.now.size;
+          origin = origin;
+        } }
     {
         let most = longest(instance);
+        let Stops { hubs, order } = stops;
         Ways {
             instance,
             hubs,

@@ -54,15 +54,7 @@ impl DualBuffer {
         ensures room { self.new.room ≡ self.old.room }
         ensures dual { let s = separation.now in self.new.dual ≡ minimal_dual s.problem s.hubs s.order (i, s.start + j) }
     {
-        self.a = make_dual(
-            separation,
-            duals.prices(),
-            duals.values(),
-            i,
-            j,
-            &mut self.by_node,
-            &mut self.u,
-        );
+        self.a = make_dual(separation, duals, i, j, &mut self.by_node, &mut self.u);
     }
 
     /// The price, and the nodes with their values, ascending, each value above 0. All are in 10^-12.
@@ -78,8 +70,7 @@ impl DualBuffer {
 // The price of the commodity; its values are put into `u`.
 fn make_dual(
     separation: &Separation,
-    prices: &[u64],
-    values: &[u64],
+    duals: &OriginScratch,
     i: u32,
     j: usize,
     by_node: &mut Vec<u128>,
@@ -87,7 +78,7 @@ fn make_dual(
 ) -> i128
     requires origin { i < separation.now.problem.size }
     requires destination { j < separation.now.legs.size }
-    requires duals { AreDualsFrom separation.now i prices.now values.now }
+    requires duals { AreDualsFrom separation.now i duals.now.prices duals.now.values }
     requires values_room { separation.now.problem.size ≤ vec_capacity by_node.old }
     requires pairs_room { separation.now.problem.size ≤ vec_capacity u.old }
     ensures values_room { vec_capacity by_node.old ≤ vec_capacity by_node.new }
@@ -97,14 +88,13 @@ fn make_dual(
     ensures signed { AreSignedPrices result u.new.items }
 {
     clear_values(by_node, separation.instance().size() as usize);
-    fill_dual(separation, prices, values, i, j, by_node, u)
+    fill_dual(separation, duals, i, j, by_node, u)
 }
 
 // The same, where no node has a value.
 fn fill_dual(
     separation: &Separation,
-    prices: &[u64],
-    values: &[u64],
+    duals: &OriginScratch,
     i: u32,
     j: usize,
     by_node: &mut [u128],
@@ -112,7 +102,7 @@ fn fill_dual(
 ) -> i128
     requires origin { i < separation.now.problem.size }
     requires destination { j < separation.now.legs.size }
-    requires duals { AreDualsFrom separation.now i prices.now values.now }
+    requires duals { AreDualsFrom separation.now i duals.now.prices duals.now.values }
     requires long { length by_node.old ≡ separation.now.problem.size }
     requires none { All (λ v. v ≡ 0) by_node.old }
     requires pairs_room { separation.now.problem.size ≤ vec_capacity u.old }
@@ -121,6 +111,8 @@ fn fill_dual(
     ensures values { let s = separation.now in u.new.items ≡ signed_values (minimal_dual s.problem s.hubs s.order (i, s.start + j)).u }
     ensures signed { AreSignedPrices result u.new.items }
 {
+    let prices = duals.prices();
+    let values = duals.values();
     set_values(separation, prices, values, i, j, by_node);
     list_values(separation.candidates(), by_node, u);
     price_of(separation, prices, values, i, j)

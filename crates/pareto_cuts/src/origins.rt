@@ -6,7 +6,7 @@ ghost use Rattle.leg_duals.specs.StopLegs.{AreFirstLegsOf};
 ghost use Rattle.pareto_cuts.specs.UnitCosts.{AreDualsFrom};
 
 use crate::Separation;
-use leg_duals::{FirstLegs, LimitedDuals, Ways};
+use leg_duals::{FirstLegs, LimitedDuals, Stops, Ways};
 use std::alloc::{AllocError, Global};
 use std::marker::Model;
 use unit_duals::UnitDuals;
@@ -103,14 +103,11 @@ fn work_out_limited(separation: &Separation, first: &[u64], i: u32, duals: &mut 
     ensures duals { AreDualsFrom separation.now i duals.new.prices duals.new.values }
 {
     let legs = separation.tables().legs();
-    let ways = Ways::new(
-        separation.instance(),
-        separation.hubs(),
-        separation.order(),
-        separation.start(),
-        i,
-        &legs,
-        first,
-    );
+    let stops = Stops {
+        hubs: separation.hubs(),
+        order: separation.order(),
+    };
+    let instance = separation.instance();
+    let ways = Ways::new(instance, stops, separation.start(), i, &legs, first);
     duals.work_out(&ways);
 }

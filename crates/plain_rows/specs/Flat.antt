@@ -1,11 +1,12 @@
 -- The rows of a table as they are kept, one after the other, and what a pivot writes of them. A row has a number above 0 in a
 -- basic column of its own, or for the objective row in v's, and 0 in those of the others. So of each row only the numbers of the
 -- columns outside the basis are kept, in the order in which these columns stand, its right side, and its own number.
-use Rattle.std.specs.Prelude.{◌≡◌, ◌≢◌, ℕ, ◌+◌, ◌*◌, ◌^◌, ◌<◌, ◌≤◌, ◌==◌, if◌then◌else◌, length, map, true, List, [], ◌∷◌, ◌++◌, slice_index, slice_set, ℤ, pos}
+use Rattle.std.specs.Prelude.{◌≡◌, ◌≢◌, ℕ, ◌+◌, ◌*◌, ◌^◌, ◌<◌, ◌≤◌, ◌==◌, if◌then◌else◌, length, map, true, List, [], ◌∷◌, ◌++◌, slice_index, slice_set, ℤ, ◌<ℤ◌, pos}
 use Rattle.std.specs.List.{range_with_len}
 use Rattle.frac_rows.specs.Divisors.{divisor_of, reduced}
 use Rattle.frac_rows.specs.Rows.{Table, number, eliminated, is_wide_row, AreNarrow}
 use Rattle.frac_rows.specs.Stored.{piece}
+use Rattle.plain_rows.specs.declared.pivots.Pivot.{Pivot}
 
 -- ---- a kept row, and the whole one
 
@@ -107,6 +108,13 @@ cleared c row = slice_set row c (pos 0)
 -- what becomes of another row
 abbrev pub follows_of : ℕ → List ℤ → ℕ → List ℤ → List ℤ
 follows_of width base c row = reduced (eliminated (number base c) (cleared c row) (number row c) (base_of width base c))
+
+-- a pivot is made on one of so many rows, at a place where it has a number above 0, and the base is what is taken
+pub record IsPivot (outside height : ℕ) (numbers : List ℤ) (p : Pivot) : Type 0 where
+  pub row : p.row < height
+  pub place : p.place < outside
+  pub above : pos 0 <ℤ number (piece (outside + 2) numbers p.row) p.place
+  pub base : p.base.now ≡ base_of outside (piece (outside + 2) numbers p.row) p.place
 
 -- the row i after the pivot on the row r and the place c, of so many columns outside the basis
 pub record IsAfter (outside : ℕ) (numbers : List ℤ) (r c i : ℕ) (new : List ℤ) : Type 0 where

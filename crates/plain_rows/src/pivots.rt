@@ -1,11 +1,10 @@
 //! All rows after a pivot, and one step of a run.
 
-ghost use Rattle.std.specs.Prelude.{◌≡◌, ◌+◌, ◌-◌, ◌<◌, ◌<ℤ◌, pos, length, slice_index, OnOk, OnErr, OnSome, IfSome, IsNone};
+ghost use Rattle.std.specs.Prelude.{◌≡◌, ◌+◌, ◌-◌, ◌<◌, length, slice_index, OnOk, OnErr, OnSome, IfSome, IsNone};
 ghost use Rattle.std.specs.Option.{option_map};
-ghost use Rattle.frac_rows.specs.Rows.{number, entering};
+ghost use Rattle.frac_rows.specs.Rows.{entering};
 ghost use Rattle.frac_rows.specs.Runs.{step, goes, ends, ended_by};
-ghost use Rattle.frac_rows.specs.Stored.{piece};
-ghost use Rattle.plain_rows.specs.Flat.{table_of, width_of, base_of, AreRows, IsStored, IsRoomy, IsAfter, AreAfter, IsWideAfter};
+ghost use Rattle.plain_rows.specs.Flat.{table_of, width_of, base_of, AreRows, IsStored, IsRoomy, IsPivot, IsAfter, AreAfter, IsWideAfter};
 
 use crate::choosing::{least_negative, leaving};
 use crate::eliminating::reduce;
@@ -13,6 +12,14 @@ use crate::multipliers::Multipliers;
 use crate::parts::part;
 use frac_rows::{Ended, Wide};
 use std::mem;
+
+/// A pivot: its row, its place, and what is taken from the other rows.
+#[derive(Clone, Copy)]
+struct Pivot<'a> {
+    row: usize,
+    place: usize,
+    base: &'a [i64],
+}
 
 /// One step of a run: how it ends, if it does. A pivot is made in the spare room, which then holds the rows before it.
 pub(crate) fn advance(
@@ -38,7 +45,8 @@ pub(crate) fn advance(
     };
     let places = outside.len();
     write_base(part(numbers, places + 2, row), place, base);
-    if let Err(Wide) = next_rows(numbers, places, basis.len() + 1, row, place, base, spare) {
+    let pivot = Pivot { row, place, base };
+    if let Err(Wide) = next_rows(numbers, places, basis.len() + 1, &pivot, spare) {
         return Some(Ended::Wide);
     }
     mem::swap(numbers, spare);
@@ -78,56 +86,48 @@ fn write_base(row: &[i64], c: usize, base: &mut [i64])
     base[row.len() - 1] = 0;
 }
 
-// Writes the rows after the pivot on the row `r` and the place `c`.
+// Writes the rows after the pivot.
 fn next_rows(
     numbers: &[i64],
     places: usize,
     height: usize,
-    r: usize,
-    c: usize,
-    base: &[i64],
+    pivot: &Pivot<'_>,
     spare: &mut [i64],
 ) -> Result<(), Wide>
     requires rows { AreRows (places + 2) height numbers.now }
-    requires base { base.now ≡ base_of places (piece (places + 2) numbers.now r) c }
+    requires pivot { IsPivot places height numbers.now pivot.now }
     requires room { length spare.old ≡ length numbers.now }
-    requires row { r < height }
-    requires place { c < places }
-    requires above { pos 0 <ℤ number (piece (places + 2) numbers.now r) c }
     ensures room { length spare.new ≡ length numbers.now }
-    ensures ok { OnOk result (AreAfter places numbers.now r c height spare.new) }
-    ensures err { OnErr result (IsWideAfter places height numbers.now r c) }
+    ensures ok { OnOk result (AreAfter places numbers.now pivot.now.row pivot.now.place height spare.new) }
+    ensures err { OnErr result (IsWideAfter places height numbers.now pivot.now.row pivot.now.place) }
 {
     let width = places + 2;
     for i in 0..height {
         let out = &mut spare[i * width..i * width + width];
-        row_after(numbers, places, height, r, c, i, base, out)?;
+        row_after(numbers, places, height, pivot, i, out)?;
     }
     Ok(())
 }
 
 // Writes the row `i` after the pivot. Nothing is taken from a row with 0 at the place, and what it is multiplied by is taken
-// out again by the division, so it stays. In the row `r` its own column and the one that enters change places.
+// out again by the division, so it stays. In the pivot's row its own column and the one that enters change places.
 fn row_after(
     numbers: &[i64],
     places: usize,
     height: usize,
-    r: usize,
-    c: usize,
+    pivot: &Pivot<'_>,
     i: usize,
-    base: &[i64],
     out: &mut [i64],
 ) -> Result<(), Wide>
     requires rows { AreRows (places + 2) height numbers.now }
-    requires base { base.now ≡ base_of places (piece (places + 2) numbers.now r) c }
+    requires pivot { IsPivot places height numbers.now pivot.now }
     requires room { length out.old ≡ places + 2 }
-    requires row { r < height }
     requires within { i < height }
-    requires place { c < places }
-    requires above { pos 0 <ℤ number (piece (places + 2) numbers.now r) c }
-    ensures ok { OnOk result (IsAfter places numbers.now r c i out.new) }
-    ensures err { OnErr result (IsWideAfter places height numbers.now r c) }
+    ensures ok { OnOk result (IsAfter places numbers.now pivot.now.row pivot.now.place i out.new) }
+    ensures err { OnErr result (IsWideAfter places height numbers.now pivot.now.row pivot.now.place) }
 {
+    let r = pivot.row;
+    let c = pivot.place;
     let row = part(numbers, places + 2, i);
     let number = row[c];
     out.copy_from_slice(row);
@@ -144,5 +144,5 @@ fn row_after(
         own: part(numbers, places + 2, r)[c],
         base: number,
     };
-    reduce(turn, base, out)
+    reduce(turn, pivot.base, out)
 }

@@ -1,8 +1,10 @@
 -- The values of one origin on the way to the least: the lengths that they hang on, as functions, and what holds so far.
-use Rattle.std.specs.Prelude.{◌≡◌, ℕ, ◌+◌, ◌-◌, ◌*◌, ◌<◌, ◌≤◌, List, length, slice_index}
+use Rattle.std.specs.Prelude.{◌≡◌, ℕ, ◌+◌, ◌-◌, ◌*◌, ◌<◌, ◌≤◌, List, length, slice_index, All}
 use Rattle.unit_duals.specs.Cells.{cell}
 use Rattle.unit_duals.specs.Lengths.{UnitLegs, AreFirstLegs, trunk_leg, last_leg}
 use Rattle.unit_duals.specs.Leasts.{least_of}
+use Rattle.unit_duals.specs.Limits.{most_length}
+use Rattle.unit_duals.specs.declared.turns.OriginLengths.{OriginLengths}
 
 -- the least length from the stop k to j, straight or by a hub
 unfoldable pub back_leg : UnitLegs → ℕ → ℕ → ℕ
@@ -82,21 +84,26 @@ pub record IsTurnAt (o : Origin) (n t e : ℕ) (values slack rest : List ℕ) : 
   pub final : AreFinal o n t values
   pub row : IsRowAt o n t e values
 
--- the lists that one origin is worked out in have their lengths, and those of legs their limits
-pub record AreWorkLists (l : UnitLegs) (prices first reach slack rest values : List ℕ) : Type 0 where
-  pub prices_long : length prices ≡ l.size
-  pub first_legs : AreFirstLegs l first
-  pub reach_legs : AreFirstLegs l reach
+-- the lengths of an origin as they are held
+abbrev pub held_origin : OriginLengths → Origin
+held_origin s = origin_of s.tables.now.legs s.prices.now s.first.now s.reach.now
+
+-- the lists that they are held in have their lengths, and each number its limit
+pub record AreOriginLengths (s : OriginLengths) : Type 0 where
+  pub prices_long : length s.prices.now ≡ s.tables.now.legs.size
+  pub price_limit : All (λ d. d ≤ most_length) s.prices.now
+  pub first_legs : AreFirstLegs s.tables.now.legs s.first.now
+  pub reach_legs : AreFirstLegs s.tables.now.legs s.reach.now
+
+-- the lists that an origin is worked out in have a row for each place
+pub record AreWorkLists (l : UnitLegs) (slack rest values : List ℕ) : Type 0 where
   pub slack_long : length slack ≡ l.count * l.size
   pub rest_long : length rest ≡ l.count * l.size
   pub values_long : length values ≡ l.count * l.size
 
--- the same of the origin with these prices, first legs and least lengths to the stops
-abbrev pub AreRowsDone : UnitLegs → List ℕ → List ℕ → List ℕ → ℕ → List ℕ → Type 0
-AreRowsDone l prices first reach t values = AreFinal (origin_of l prices first reach) l.size t values
+-- the rows of the origin that are done, and those that are noted
+abbrev pub AreRowsDone : OriginLengths → ℕ → List ℕ → Type 0
+AreRowsDone s t values = AreFinal (held_origin s) s.tables.now.legs.size t values
 
-abbrev pub AreRowsNoted : UnitLegs → List ℕ → List ℕ → List ℕ → ℕ → List ℕ → List ℕ → List ℕ → Type 0
-AreRowsNoted l prices first reach t values slack rest = AreSlackRows (origin_of l prices first reach) l.size t values slack rest
-
-abbrev pub IsTurn : UnitLegs → List ℕ → List ℕ → List ℕ → ℕ → ℕ → List ℕ → List ℕ → List ℕ → Type 0
-IsTurn l prices first reach t e values slack rest = IsTurnAt (origin_of l prices first reach) l.size t e values slack rest
+abbrev pub AreRowsNoted : OriginLengths → ℕ → List ℕ → List ℕ → List ℕ → Type 0
+AreRowsNoted s t values slack rest = AreSlackRows (held_origin s) s.tables.now.legs.size t values slack rest

@@ -8,7 +8,7 @@ ghost use Rattle.unit_duals.specs.LeastValues.{ArePrices, AreLeastValues};
 use crate::Tables;
 use crate::filling::fit;
 use crate::lengths::{set_prices, set_reach};
-use crate::turns::pull_values;
+use crate::turns::{OriginLengths, pull_values};
 use std::alloc::{AllocError, Global};
 use std::marker::Model;
 
@@ -74,15 +74,13 @@ impl UnitDuals {
         fit(&mut self.values, cells, 0);
         set_prices(tables, first, &mut self.prices);
         set_reach(tables, first, &mut self.reach);
-        pull_values(
+        let lengths = OriginLengths {
             tables,
-            &self.prices,
+            prices: &self.prices,
             first,
-            &self.reach,
-            &mut self.slack,
-            &mut self.rest,
-            &mut self.values,
-        );
+            reach: &self.reach,
+        };
+        pull_values(&lengths, &mut self.slack, &mut self.rest, &mut self.values);
     }
 
     /// The price of each destination.

@@ -7,8 +7,8 @@ ghost use Rattle.hub_spec.specs.Separation.{values_listed, AreListedValues};
 ghost use Rattle.hub_model.specs.Prices.{signed_values, AreSignedPrices};
 ghost use Rattle.cut_model.specs.ValueRows.{node_value, allowed_price, value_dual};
 
-use crate::CandidateLegs;
 use crate::pricing::value_of;
+use crate::{CandidateLegs, ListedRow};
 use hub_model::{list_value, signed};
 use std::alloc::{AllocError, Global};
 use std::marker::Model;
@@ -45,25 +45,18 @@ impl DualScratch {
         })
     }
 
-    /// Makes the dual of the commodity from `i` to `j`, from its row of values in the unit and its price per unit of
-    /// flow. It allocates nothing.
-    pub fn make(
-        &mut self,
-        tables: &CandidateLegs,
-        i: u32,
-        j: u32,
-        unit: u32,
-        row: &[u32],
-        price: u64,
-    )
+    /// Makes the dual of the commodity from `i` to `j`, from its row of values and its price per unit of flow. It
+    /// allocates nothing.
+    pub fn make(&mut self, tables: &CandidateLegs, i: u32, j: u32, row: &ListedRow<'_>, price: u64)
         requires origin { i < tables.now.size }
         requires destination { j < tables.now.size }
-        requires row { length row.now ≡ length tables.now.candidates }
-        requires price { price ≡ allowed_price tables.now (i, j) (node_value tables.now unit row.now) }
+        requires row { length row.now.row.now ≡ length tables.now.candidates }
+        requires price { price ≡ allowed_price tables.now (i, j) (node_value tables.now row.now.unit row.now.row.now) }
         requires room { length tables.now.candidates ≤ self.old.room }
-        ensures dual { self.new.dual ≡ value_dual tables.now unit row.now (i, j) }
+        ensures dual { self.new.dual ≡ value_dual tables.now row.now.unit row.now.row.now (i, j) }
         ensures room { self.new.room ≡ self.old.room }
     {
+        let ListedRow { unit, row } = *row;
         let flow = flow_between(tables, i, j);
         self.a = signed(flow as u128 * price as u128);
         list_values(tables, flow, unit, row, &mut self.u);

@@ -29,6 +29,6 @@ pub use laws::{
     value_dual_is_dual,
 };
 pub use leg_duals::CandidateLegs;
-pub use pricing::{PriceScratch, price, set_origin_prices, set_prices};
+pub use pricing::{ListedRow, PriceScratch, price, set_origin_prices, set_prices};
 pub use sums::{cut_sums, sums_of};
 pub use workers::set_prices_by_workers;

@@ -20,6 +20,15 @@ use crate::{CandidateLegs, Values};
 use std::alloc::{AllocError, Global};
 use std::marker::Model;
 
+/// A row of values: those of all candidates, in a unit.
+#[derive(Clone, Copy)]
+pub struct ListedRow<'a> {
+    /// What a listed 1 is, per unit of flow, in 10^-6.
+    pub unit: u32,
+    /// The values of the candidates, in the unit.
+    pub row: &'a [u32],
+}
+
 /// A workspace for prices: the first and last ends of routes. A worker has its own.
 #[derive(Drop)]
 pub struct PriceScratch {
@@ -70,15 +79,8 @@ pub fn price(
     ensures price { result ≡ allowed_price tables.now (i, j) (node_value tables.now unit row.now) }
     ensures room { scratch.new ≡ scratch.old }
 {
-    price_in(
-        tables,
-        i,
-        j,
-        unit,
-        row,
-        &mut scratch.first,
-        &mut scratch.last,
-    )
+    let row = ListedRow { unit, row };
+    price_in(tables, i, j, &row, &mut scratch.first, &mut scratch.last)
 }
 
 /// Sets the prices of all commodities, row by row, one row for each origin. It allocates nothing.
@@ -129,18 +131,18 @@ fn price_in(
     tables: &CandidateLegs,
     i: u32,
     j: u32,
-    unit: u32,
-    row: &[u32],
+    row: &ListedRow<'_>,
     first: &mut [u64],
     last: &mut [u64],
 ) -> u64
     requires origin { i < tables.now.size }
     requires destination { j < tables.now.size }
-    requires row { length row.now ≡ length tables.now.candidates }
+    requires row { length row.now.row.now ≡ length tables.now.candidates }
     requires first { length first.old ≡ length tables.now.candidates }
     requires last { length last.old ≡ length tables.now.candidates }
-    ensures { result ≡ allowed_price tables.now (i, j) (node_value tables.now unit row.now) }
+    ensures { result ≡ allowed_price tables.now (i, j) (node_value tables.now row.now.unit row.now.row.now) }
 {
+    let ListedRow { unit, row } = *row;
     let delivery = tables.delivery_legs(j);
     set_ends(tables, tables.collection_legs(i), unit, row, first);
     set_ends(tables, delivery, unit, row, last);

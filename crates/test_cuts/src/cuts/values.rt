@@ -8,7 +8,9 @@ use super::texts::{dual_told, sums_told};
 use hub_model::Instance;
 use std::alloc::{AllocError, Global};
 use test_lines::{list, node};
-use value_cuts::{CandidateLegs, DualScratch, PriceScratch, Values, cut_sums, price, set_prices};
+use value_cuts::{
+    CandidateLegs, DualScratch, ListedRow, PriceScratch, Values, cut_sums, price, set_prices,
+};
 
 /// The result of the line for one row of values in a unit, with a value for each candidate.
 pub fn asked(alloc: Global, instance: &Instance, line: &str) -> Result<String, AllocError> {
@@ -151,7 +153,7 @@ fn dual(
     requires price { price ≡ allowed_price tables.now (i, j) (node_value tables.now unit row.now) }
 {
     let mut dual = DualScratch::new(alloc, tables)?;
-    dual.make(tables, i, j, unit, row, price);
+    dual.make(tables, i, j, &ListedRow { unit, row }, price);
     let (price, values) = dual.dual();
     dual_told(alloc, price, values)
 }

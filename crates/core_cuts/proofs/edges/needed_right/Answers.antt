@@ -7,8 +7,8 @@ use Rattle.core_cuts.proofs.edges.needed_right.Goals.{After-flow_between}
 within : (c : After-flow_between) → c.pair_cost-cost.result / c.flow_between.result ≤ most_unit
 within c =
     subst (λ (n : ℕ). n ≤ most_unit) (sym (ap₂ ◌/◌ c.pair_cost-cost.ensures c.flow_between.ensures.value))
-    (right_limit c.args.instance.now (c.args.i, c.args.j) (c.args.k, c.args.m) c.size.ensures.problem c.requires.any_length
-    c.requires.from c.requires.to c.requires.first c.requires.last)
+    (right_limit c.args.commodity.now.instance.now (c.args.commodity.now.i, c.args.commodity.now.j) (c.args.k, c.args.m) c.size.ensures.problem c.requires.commodity.any_length
+    c.requires.commodity.from c.requires.commodity.to c.requires.first c.requires.last)
 
 pub by_unit-requires : goal.by_unit-requires
 by_unit-requires c = within (goal.at.by_unit-requires c).After-flow_between

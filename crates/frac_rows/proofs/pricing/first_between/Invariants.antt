@@ -2,4 +2,4 @@ use Rattle.frac_rows.specs.RoughRows.{NoneBelow}
 use Rattle.frac_rows.proofs.pricing.first_between.Given as goal
 
 abbrev pub invariant-loop-j : goal.invariant-loop-j
-invariant-loop-j l = NoneBelow l.variables l.numbers l.row 0 l.j
+invariant-loop-j l = NoneBelow l.whole.variables l.whole.numbers.now l.whole.row.now 0 l.j

@@ -7,7 +7,7 @@ use Rattle.frac_rows.proofs.pricing.first_told.Goals as goal
 
 pub returns-then-not-least-margin-clause-none : goal.returns-then-not-least-margin-clause-none
 returns-then-not-least-margin-clause-none c = λ _.
-    none_told c.args.variables c.args.numbers.now c.args.row.now c.args.margin c.args.first c.args.last c.args.sums.now c.requires.telling c.requires.one_each
+    none_told c.args.whole.now.variables c.args.whole.now.numbers.now c.args.whole.now.row.now c.args.margin c.args.first c.args.last c.args.sums.now c.requires.telling c.requires.one_each
     (λ l low.
     let m = c.ranges.margin in
     let b : FitsSigned w32 c.least.result = search rules in
@@ -20,8 +20,8 @@ is_below_by-requires-clause-telling c = λ high.
     let within : c.loop-j.j - c.args.first < length c.args.sums.now = omega (arith, c.loop-j-test.true, c.loop-j.auto.j, c.requires.one_each) in
     let x : FitsSigned w32 (number c.args.sums.now (c.loop-j.j - c.args.first)) = search rules in
     let above : c.args.margin ≤ℤ number c.args.sums.now (c.loop-j.j - c.args.first) = simp to_z-of_z at high in
-    telling_at c.args.variables c.args.numbers.now c.args.row.now c.args.margin c.args.first c.args.sums.now c.loop-j.j c.requires.telling
+    telling_at c.args.whole.now.variables c.args.whole.now.numbers.now c.args.whole.now.row.now c.args.margin c.args.first c.args.sums.now c.loop-j.j c.requires.telling
     (omega (arith, c.loop-j.auto.j)) within above
 
 pub loop-j-preserved : goal.loop-j-preserved
-loop-j-preserved c = none_more c.args.variables c.args.numbers.now c.args.row.now c.args.first c.loop-j.j c.loop-j.invariant (sym c.is_below_by.ensures ∙ c.if-is_below_by.false)
+loop-j-preserved c = none_more c.args.whole.now.variables c.args.whole.now.numbers.now c.args.whole.now.row.now c.args.first c.loop-j.j c.loop-j.invariant (sym c.is_below_by.ensures ∙ c.if-is_below_by.false)

@@ -8,4 +8,4 @@ pub returns : goal.returns
 returns c =
     let fits : FitsSigned w64 c.entry_of.result = search rules in
     ap is_negative (to_z-of_z w64 c.entry_of.result fits ∙ c.entry_of.ensures
-    ∙ number_of_column (length c.args.row.now - 1) c.args.variables c.args.numbers.now c.args.row.now c.args.j c.requires.within)
+    ∙ number_of_column (length c.args.whole.now.row.now - 1) c.args.whole.now.variables c.args.whole.now.numbers.now c.args.whole.now.row.now c.args.j c.requires.within)

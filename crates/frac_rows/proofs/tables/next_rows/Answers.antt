@@ -12,7 +12,7 @@ loop-i-preserved c =
     let within : c.loop-i.i * (h + 1) + (h + 1) ≤ length c.loop-i.spare =
     piece_within (h + 1) h c.loop-i.i c.loop-i.spare long c.loop-i-test.true in
     let size : length c.row_after.new.out ≡ h + 1 = simp (length-take, length-drop) at c.row_after.auto.out ∙ omega (arith, within) in
-    after_more c.args.columns.now c.args.numbers.now c.args.r c.args.entering.now.column c.loop-i.i h _ c.loop-i.spare c.row_after.new.out
+    after_more c.args.columns.now c.args.numbers.now c.args.pivot.now.row c.args.pivot.now.entering.column c.loop-i.i h _ c.loop-i.spare c.row_after.new.out
     c.height-height.ensures.value (omega (arith, within)) size c.loop-i.invariant c.in_ok-divided.ensures.ok
 
 pub returns-clause-ok : goal.returns-clause-ok

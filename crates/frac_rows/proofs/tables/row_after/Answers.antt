@@ -7,7 +7,7 @@ use Rattle.frac_rows.proofs.tables.row_after.Goals as goal
 
 pub multipliers-multipliers-requires-clause-narrow : goal.multipliers-multipliers-requires-clause-narrow
 multipliers-multipliers-requires-clause-narrow c =
-    narrow_entering c.args.columns.now c.args.numbers.now c.args.entering.now.numbers.now c.args.entering.now.column c.requires.kept c.requires.entering
+    narrow_entering c.args.columns.now c.args.numbers.now c.args.pivot.now.entering.numbers.now c.args.pivot.now.entering.column c.requires.kept c.requires.entering
 
 pub follow_by-requires-clause-narrow : goal.follow_by-requires-clause-narrow
 follow_by-requires-clause-narrow c =
@@ -16,14 +16,14 @@ follow_by-requires-clause-narrow c =
 
 pub follow_by-requires-clause-narrow_base : goal.follow_by-requires-clause-narrow_base
 follow_by-requires-clause-narrow_base c =
-    narrow_part c.args.columns.now c.args.numbers.now c.part-base.result.now c.height-width.result c.args.r
+    narrow_part c.args.columns.now c.args.numbers.now c.part-base.result.now c.height-width.result c.args.pivot.now.row
     c.part-base.ensures.value c.height-width.ensures.value c.requires.kept c.requires.row
 
 pub returns-then-follow_by-clause-ok : goal.returns-then-follow_by-clause-ok
 returns-then-follow_by-clause-ok c =
-    after_divided c.args.columns.now c.args.numbers.now c.args.r c.args.entering.now.column c.args.i c.part-base.result.now c.part-row.result.now c.follow_by.new.out
+    after_divided c.args.columns.now c.args.numbers.now c.args.pivot.now.row c.args.pivot.now.entering.column c.args.i c.part-base.result.now c.part-row.result.now c.follow_by.new.out
     c.multipliers-multipliers.result.own c.multipliers-multipliers.result.base
-    (are_met c.args.columns.now c.args.numbers.now c.args.entering.now.numbers.now c.args.r c.args.entering.now.column c.args.i c.height-width.result
+    (are_met c.args.columns.now c.args.numbers.now c.args.pivot.now.entering.numbers.now c.args.pivot.now.row c.args.pivot.now.entering.column c.args.i c.height-width.result
     c.part-base.result.now c.part-row.result.now c.multipliers-multipliers.result.own c.multipliers-multipliers.result.base c.requires.entering c.requires.row c.requires.within
     c.if-i-r.false c.height-width.ensures.value c.part-base.ensures.value c.part-row.ensures.value (c.part-base.ensures.long ∙ sym c.part-row.ensures.long)
     c.multipliers-multipliers.ensures.own c.multipliers-multipliers.ensures.base)
@@ -36,14 +36,14 @@ follow_reduced-requires-clause-narrow c =
 
 pub follow_reduced-requires-clause-narrow_base : goal.follow_reduced-requires-clause-narrow_base
 follow_reduced-requires-clause-narrow_base c =
-    narrow_part c.args.columns.now c.args.numbers.now c.part-base.result.now c.height-width.result c.args.r
+    narrow_part c.args.columns.now c.args.numbers.now c.part-base.result.now c.height-width.result c.args.pivot.now.row
     c.part-base.ensures.value c.height-width.ensures.value c.requires.kept c.requires.row
 
 pub returns-then-follow_reduced-clause-ok : goal.returns-then-follow_reduced-clause-ok
 returns-then-follow_reduced-clause-ok c =
-    after_reduced c.args.columns.now c.args.numbers.now c.args.r c.args.entering.now.column c.args.i c.part-base.result.now c.part-row.result.now c.follow_reduced.new.out
+    after_reduced c.args.columns.now c.args.numbers.now c.args.pivot.now.row c.args.pivot.now.entering.column c.args.i c.part-base.result.now c.part-row.result.now c.follow_reduced.new.out
     c.multipliers-multipliers.result.own c.multipliers-multipliers.result.base
-    (are_met c.args.columns.now c.args.numbers.now c.args.entering.now.numbers.now c.args.r c.args.entering.now.column c.args.i c.height-width.result
+    (are_met c.args.columns.now c.args.numbers.now c.args.pivot.now.entering.numbers.now c.args.pivot.now.row c.args.pivot.now.entering.column c.args.i c.height-width.result
     c.part-base.result.now c.part-row.result.now c.multipliers-multipliers.result.own c.multipliers-multipliers.result.base c.requires.entering c.requires.row c.requires.within
     c.if-i-r.false c.height-width.ensures.value c.part-base.ensures.value c.part-row.ensures.value (c.part-base.ensures.long ∙ sym c.part-row.ensures.long)
     c.multipliers-multipliers.ensures.own c.multipliers-multipliers.ensures.base)
@@ -51,9 +51,9 @@ returns-then-follow_reduced-clause-ok c =
 
 pub returns-clause-err : goal.returns-clause-err
 returns-clause-err c =
-    wide_after c.args.columns.now c.args.numbers.now c.args.r c.args.entering.now.column c.args.i c.part-base.result.now c.part-row.result.now
+    wide_after c.args.columns.now c.args.numbers.now c.args.pivot.now.row c.args.pivot.now.entering.column c.args.i c.part-base.result.now c.part-row.result.now
     c.multipliers-multipliers.result.own c.multipliers-multipliers.result.base
-    (are_met c.args.columns.now c.args.numbers.now c.args.entering.now.numbers.now c.args.r c.args.entering.now.column c.args.i c.height-width.result
+    (are_met c.args.columns.now c.args.numbers.now c.args.pivot.now.entering.numbers.now c.args.pivot.now.row c.args.pivot.now.entering.column c.args.i c.height-width.result
     c.part-base.result.now c.part-row.result.now c.multipliers-multipliers.result.own c.multipliers-multipliers.result.base c.requires.entering c.requires.row c.requires.within
     c.if-i-r.false c.height-width.ensures.value c.part-base.ensures.value c.part-row.ensures.value (c.part-base.ensures.long ∙ sym c.part-row.ensures.long)
     c.multipliers-multipliers.ensures.own c.multipliers-multipliers.ensures.base)

@@ -9,8 +9,8 @@ pub returns : goal.returns
 returns c =
     let fits : FitsSigned w128 c.sum_128.result = search rules in
     let is : c.unsigned_abs.result ≡ unsigned_abs c.sum_128.result = simp to_z-of_z at c.unsigned_abs.ensures.value in
-    let size : c.unsigned_abs.result ≡ unsigned_abs (number_of c.args.variables c.args.numbers.now c.args.row.now c.args.j) =
+    let size : c.unsigned_abs.result ≡ unsigned_abs (number_of c.args.whole.now.variables c.args.whole.now.numbers.now c.args.whole.now.row.now c.args.j) =
     is ∙ ap unsigned_abs (c.sum_128.ensures
-    ∙ whole_sum (length c.args.row.now - 1) c.args.variables c.args.j c.args.numbers.now c.args.tops.now c.args.row.now c.requires.columns
-    c.requires.within c.requires.narrow) in
+    ∙ whole_sum (length c.args.whole.now.row.now - 1) c.args.whole.now.variables c.args.j c.args.whole.now.numbers.now c.args.whole.now.tops.now c.args.whole.now.row.now c.requires.whole.columns
+    c.requires.within c.requires.whole.narrow) in
     ap₂ nat_lt c.from.ensures size

@@ -11,8 +11,8 @@ use Rattle.leg_duals.proofs.filling.set_row.Goals as goal
 pub places-preserved : goal.places-preserved
 places-preserved c =
     let p = c.args.instance.now in
-    let hubs = c.args.hubs.now in
-    let order = c.args.order.now in
+    let hubs = c.args.stops.now.hubs.now in
+    let order = c.args.stops.now.order.now in
     let n = length order + length hubs in
     let row = c.distances_from-distances.result.now in
     let m = c.places.m in
@@ -27,8 +27,8 @@ places-preserved c =
 pub hubs-preserved : goal.hubs-preserved
 hubs-preserved c =
     let p = c.args.instance.now in
-    let hubs = c.args.hubs.now in
-    let order = c.args.order.now in
+    let hubs = c.args.stops.now.hubs.now in
+    let order = c.args.stops.now.order.now in
     let n = length order + length hubs in
     let row = c.distances_from-distances.result.now in
     let x = c.hubs.x in
@@ -43,6 +43,6 @@ hubs-preserved c =
 pub returns-clause-limit : goal.returns-clause-limit
 returns-clause-limit c =
     let p = c.args.instance.now in
-    λ m below. leg_limit c.args.factor (distance p c.args.from (stop_node c.args.hubs.now c.args.order.now m)) c.requires.factor
-    (c.distances_from-distances.ensures.limit (stop_node c.args.hubs.now c.args.order.now m)
-    (stop_is_node p.size c.args.hubs.now c.args.order.now m c.requires.hubs c.requires.order below))
+    λ m below. leg_limit c.args.factor (distance p c.args.from (stop_node c.args.stops.now.hubs.now c.args.stops.now.order.now m)) c.requires.factor
+    (c.distances_from-distances.ensures.limit (stop_node c.args.stops.now.hubs.now c.args.stops.now.order.now m)
+    (stop_is_node p.size c.args.stops.now.hubs.now c.args.stops.now.order.now m c.requires.hubs c.requires.order below))

@@ -10,5 +10,5 @@ loop-i-preserved c =
     let within : c.loop-i.i * w + w ≤ length c.loop-i.spare =
     piece_within w c.args.height c.loop-i.i c.loop-i.spare (c.loop-i.auto.spare ∙ c.requires.room ∙ c.requires.rows.long) c.loop-i-test.true in
     let size : length c.row_after.new.out ≡ w = simp (length-take, length-drop) at c.row_after.auto.out ∙ omega (arith, within) in
-    after_more c.args.places c.args.numbers.now c.args.r c.args.c c.loop-i.i _ c.loop-i.spare c.row_after.new.out (omega (arith, within)) size
+    after_more c.args.places c.args.numbers.now c.args.pivot.now.row c.args.pivot.now.place c.loop-i.i _ c.loop-i.spare c.row_after.new.out (omega (arith, within)) size
     c.loop-i.invariant c.in_ok-row_after.ensures.ok

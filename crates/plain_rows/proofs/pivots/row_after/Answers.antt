@@ -10,15 +10,15 @@ pub returns-then-i-r-clause-ok : goal.returns-then-i-r-clause-ok
 returns-then-i-r-clause-ok c =
     let row = c.part-row.result.now in
     let own : FitsSigned w64 (number row (c.args.places + 1)) = search rules in
-    let entering : FitsSigned w64 (number row c.args.c) = search rules in
-    rw (to_z-of_z w64 (number row (c.args.places + 1)) own, to_z-of_z w64 (number row c.args.c) entering, c.copy_from_slice.ensures.after)
-    (after_stays c.args.places c.args.height c.args.numbers.now c.args.r c.args.c c.args.i row (stays_of c.args.places row c.args.c)
-    c.requires.rows c.requires.within c.requires.place c.if-i-r.true c.part-row.ensures.value refl)
+    let entering : FitsSigned w64 (number row c.args.pivot.now.place) = search rules in
+    rw (to_z-of_z w64 (number row (c.args.places + 1)) own, to_z-of_z w64 (number row c.args.pivot.now.place) entering, c.copy_from_slice.ensures.after)
+    (after_stays c.args.places c.args.height c.args.numbers.now c.args.pivot.now.row c.args.pivot.now.place c.args.i row (stays_of c.args.places row c.args.pivot.now.place)
+    c.requires.rows c.requires.within c.requires.pivot.place c.if-i-r.true c.part-row.ensures.value refl)
 
 pub returns-then-number-eq0-clause-ok : goal.returns-then-number-eq0-clause-ok
 returns-then-number-eq0-clause-ok c =
-    let n = number c.part-row.result.now c.args.c in
+    let n = number c.part-row.result.now c.args.pivot.now.place in
     let fits : FitsSigned w64 n = search rules in
-    after_kept c.args.places c.args.height c.args.numbers.now c.args.r c.args.c c.args.i c.copy_from_slice.new.self
-    c.requires.rows c.requires.row c.requires.within c.if-i-r.false c.requires.above (c.copy_from_slice.ensures.after ∙ c.part-row.ensures.value)
-    (ap (λ p. number p c.args.c) (sym c.part-row.ensures.value) ∙ sym (to_z-of_z w64 n fits) ∙ ap (to_z w64) c.if-number-eq0.true)
+    after_kept c.args.places c.args.height c.args.numbers.now c.args.pivot.now.row c.args.pivot.now.place c.args.i c.copy_from_slice.new.self
+    c.requires.rows c.requires.pivot.row c.requires.within c.if-i-r.false c.requires.pivot.above (c.copy_from_slice.ensures.after ∙ c.part-row.ensures.value)
+    (ap (λ p. number p c.args.pivot.now.place) (sym c.part-row.ensures.value) ∙ sym (to_z-of_z w64 n fits) ∙ ap (to_z w64) c.if-number-eq0.true)

@@ -6,11 +6,11 @@ use Rattle.unit_duals.proofs.turns.set_row.Goals as goal
 
 pub loop-j-preserved : goal.loop-j-preserved
 loop-j-preserved c =
-    let l = c.args.tables.now.legs in
+    let l = c.args.lengths.now.tables.now.legs in
     let t = c.args.t in
     let j = c.loop-j.j in
     let column : j < l.size = omega arith in
-    let value = asked_by_hubs l c.args.prices.now c.args.first.now c.args.reach.now t in
+    let value = asked_by_hubs l c.args.lengths.now.prices.now c.args.lengths.now.first.now c.args.lengths.now.reach.now t in
     let back = c.back_row-back.ensures.each j column in
     let last = c.last_row-last.ensures.each j column in
     subst (λ (n : ℕ). IsRowSet l.size t (j + 1) value c.args.values.now (set c.loop-j.values (t * n + j) c.excess.result)) (sym c.size-size.ensures.value)

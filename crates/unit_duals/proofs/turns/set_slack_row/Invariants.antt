@@ -6,8 +6,8 @@ use Rattle.unit_duals.proofs.turns.set_slack_row.Given as goal
 
 abbrev pub invariant-loop-j : goal.invariant-loop-j
 invariant-loop-j l =
-    let legs = l.tables.legs in
+    let legs = l.lengths.tables.now.legs in
     record {
-      slack : IsRowSet legs.size l.t l.j (λ j. slice_index l.prices j - cell legs.size l.values l.t j - last_leg legs l.t j) l.fn.slack l.slack;
-      rest : IsRowSet legs.size l.t l.j (λ j. slice_index l.prices j - cell legs.size l.values l.t j) l.fn.rest l.rest;
+      slack : IsRowSet legs.size l.t l.j (λ j. slice_index l.lengths.prices.now j - cell legs.size l.values l.t j - last_leg legs l.t j) l.fn.slack l.slack;
+      rest : IsRowSet legs.size l.t l.j (λ j. slice_index l.lengths.prices.now j - cell legs.size l.values l.t j) l.fn.rest l.rest;
     }

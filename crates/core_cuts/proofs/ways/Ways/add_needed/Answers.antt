@@ -5,7 +5,7 @@ use Rattle.core_cuts.proofs.ways.Ways.add_needed.Goals.{in-Some+in_ok-add-in-Som
 
 pub loop-x-preserved : goal.loop-x-preserved
 loop-x-preserved c =
-    let p = c.args.instance.now in
+    let p = c.args.commodity.now.instance.now in
     let k = c.args.k in
     let later = c.args.later.now in
     let x = c.loop-x.x in
@@ -13,11 +13,11 @@ loop-x-preserved c =
     let edges = c.loop-x.self.edges.items in
     elim c.match-needed_right.branch [
       | in-Some+in_ok-add-in-Some w ↦ rw (w.self-is, w.in_ok-add-in-Some.ensures.edges, w.in_ok-add-in-Some.ensures.rights) (
-        needed_yes p (c.args.i, c.args.j) k later x base edges c.loop-x-test.true w.in-Some.ensures.needed c.loop-x.invariant.0,
-        costs_more p (c.args.i, c.args.j) edges c.loop-x.self.rights.items (k, get_or later x 0) w.in-Some.right c.loop-x.invariant.1 w.in-Some.ensures.value,
+        needed_yes p (c.args.commodity.now.i, c.args.commodity.now.j) k later x base edges c.loop-x-test.true w.in-Some.ensures.needed c.loop-x.invariant.0,
+        costs_more p (c.args.commodity.now.i, c.args.commodity.now.j) edges c.loop-x.self.rights.items (k, get_or later x 0) w.in-Some.right c.loop-x.invariant.1 w.in-Some.ensures.value,
       )
       | in-None w ↦ rw w.self-is (
-        needed_no p (c.args.i, c.args.j) k later x base edges c.loop-x-test.true (w.in-None.ensures.none refl) c.loop-x.invariant.0,
+        needed_no p (c.args.commodity.now.i, c.args.commodity.now.j) k later x base edges c.loop-x-test.true (w.in-None.ensures.none refl) c.loop-x.invariant.0,
         c.loop-x.invariant.1,
       )
     ]

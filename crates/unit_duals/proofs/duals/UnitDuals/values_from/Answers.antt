@@ -3,6 +3,7 @@ use Rattle.std.proofs.lemmas.List.{with_items_is}
 use Rattle.std.proofs.lemmas.List.Elements.{All-from_get_or}
 use Rattle.std.specs.Vec.{with_items}
 use Rattle.unit_duals.specs.Limits.{most_length}
+use Rattle.unit_duals.specs.Lengths.{AreFirstLegs}
 use Rattle.unit_duals.specs.LeastValues.{IsPrice, ArePrices, AreLeastValues}
 use Rattle.unit_duals.specs.Values.{reach_leg}
 use Rattle.unit_duals.proofs.HubLengths.{price_is_price}
@@ -10,18 +11,24 @@ use Rattle.unit_duals.proofs.PriceLimits.{price_limit}
 use Rattle.unit_duals.proofs.WholeOrigins.{values_are_least}
 use Rattle.unit_duals.proofs.duals.UnitDuals.values_from.Goals as goal
 
-pub pull_values-requires-clause-limit : goal.pull_values-requires-clause-limit
-pull_values-requires-clause-limit c =
+pub pull_values-requires-clause-lengths : goal.pull_values-requires-clause-lengths
+pull_values-requires-clause-lengths c =
     let l = c.args.tables.now.legs in
     let first = c.args.first.now in
     let prices = c.set_prices.new.prices in
     let long : length prices ≡ l.size = omega (arith, c.set_prices.auto.prices, c.deref_mut.ensures.len, c.fit.ensures.len, c.size-2.ensures.value) in
     let are = c.deref.ensures.value ∙ with_items_is c.fit.new.items prices (omega (arith, long, c.fit.ensures.len, c.size-2.ensures.value)) in
-    subst (All (λ d. d ≤ most_length)) (sym are)
-    (All-from_get_or (λ d. d ≤ most_length) prices 0 (λ j below. (let column : j < l.size = omega (arith, below, long) in
-    let is = c.set_prices.ensures.each j column in
-    let limit = price_limit l first j c.requires.some_hub column c.size-2.ensures.legs c.requires.first in
-    omega (arith, is, limit))))
+    record {
+      prices_long = ap length are ∙ long;
+      price_limit = subst (All (λ d. d ≤ most_length)) (sym are)
+          (All-from_get_or (λ d. d ≤ most_length) prices 0 (λ j below. (let column : j < l.size = omega (arith, below, long) in
+          let is = c.set_prices.ensures.each j column in
+          let limit = price_limit l first j c.requires.some_hub column c.size-2.ensures.legs c.requires.first in
+          omega (arith, is, limit))));
+      first_legs = c.requires.first;
+      reach_legs = subst (AreFirstLegs l) (sym (c.deref-2.ensures.value ∙ with_items_is c.fit-2.new.items c.set_reach.new.reach
+          (omega (arith, c.set_reach.ensures.legs.long, c.fit-2.ensures.len, c.stops.ensures.value)))) c.set_reach.ensures.legs;
+    }
 
 pub returns-clause-prices : goal.returns-clause-prices
 returns-clause-prices c =

@@ -12,7 +12,7 @@ use Rattle.value_cuts.proofs.duals.DualScratch.make.Goals as goal
 pub invariant_of-self : goal.invariant_of-self
 invariant_of-self c =
     let p = c.args.tables.now in
-    let v : ℕ → ℕ = λ k. c.flow_between-flow.result * node_value p c.args.unit c.args.row.now k in
+    let v : ℕ → ℕ = λ k. c.flow_between-flow.result * node_value p c.args.row.now.unit c.args.row.now.row.now k in
     let fits : SFits w128 c.signed-self-inside.result = search (rules, arith) in
     let price = to_z-of_z fits ∙ c.signed-self-inside.ensures in
     record {
@@ -28,7 +28,7 @@ returns-clause-dual c =
     let p = c.args.tables.now in
     let w = flow p c.args.i c.args.j in
     let given = c.flow_between-flow.result in
-    let value : ℕ → ℕ = node_value p c.args.unit c.args.row.now in
+    let value : ℕ → ℕ = node_value p c.args.row.now.unit c.args.row.now.row.now in
     let fits : SFits w128 c.signed-self-inside.result = search (rules, arith) in
     let made : ℤ → List (ℕ × ℤ) → Prices = λ a u. record { a = natural a; u = natural_values u } in
     let listed : ℕ → List (ℕ × ℕ) = λ f. values_listed (λ k. f * value k) p.candidates in
