@@ -19,7 +19,7 @@ use search_steps::Solo;
 use std::alloc::{AllocError, Global};
 use std::thread::Threads;
 
-/// The turns of some nodes as a crew's work: block i is the turn of node i. All read the same pool and cost.
+/// The turns of some nodes as a job of the worker pool: block i is the turn of node i. All read the same pool and cost.
 #[derive(Drop)]
 pub(crate) struct Round<'a> {
     pub(crate) instance: &'a Instance,

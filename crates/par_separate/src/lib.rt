@@ -1,7 +1,7 @@
 //! Separation of a hub set's Benders cut by several workers, one origin at a time.
 //!
-//! What hangs on the set and the order alone is worked out once and shared; then the origins are the blocks of a crew's
-//! work, of which each worker draws one at a time. The cut is that of the set over the order, with all of its duals
+//! What hangs on the set and the order alone is worked out once and shared; then the origins are the blocks of a job of the
+//! worker pool, of which each worker draws one at a time. The cut is that of the set over the order, with all of its duals
 //! (`separate`), or by its sums alone, as a search asks for it (`separate_sums`): then a worker keeps an origin's sums and
 //! none of its duals, so memory does not grow by the duals of a cut. Both are the same whatever the number of workers,
 //! their schedule and the gate. Costs are in 10^-12. Nodes are `u32`, counted from 0.

@@ -16,7 +16,7 @@ pub(crate) struct DualScratch {
     pub(crate) dual: DualBuffer,
 }
 
-/// The origins of a separation as a crew's work, for the duals of each: block i is origin i.
+/// The origins of a separation as a job of the worker pool, for the duals of each: block i is origin i.
 #[derive(Drop)]
 pub(crate) struct DualsByOrigin<'a> {
     pub(crate) separation: &'a Separation<'a>,

@@ -16,7 +16,7 @@ pub struct OriginSums {
     pub loads: Vec<u128>,
 }
 
-/// The origins of a separation as a crew's work, for the sums of each: block i is origin i.
+/// The origins of a separation as a job of the worker pool, for the sums of each: block i is origin i.
 #[derive(Drop)]
 pub(crate) struct SumsByOrigin<'a> {
     pub(crate) separation: &'a Separation<'a>,

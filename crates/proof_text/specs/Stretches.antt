@@ -1,4 +1,4 @@
--- Some places one after another, as work of a crew.
+-- Some places one after another, as a job of the worker pool.
 use Rattle.std.specs.Prelude.{◌≡◌, ℕ, ◌+◌, ◌≤◌, List, flat_map}
 use Rattle.cert_spec.specs.Lines.{Item}
 use Rattle.cert_spec.specs.Text.{line_bytes}

@@ -14,7 +14,7 @@ use dual_lender::DualLender;
 use hub_io::{Buffer, Failed, Sink};
 use std::alloc::{AllocError, Global};
 
-/// Some places as a crew's work: block b is the text of the place that stands so far behind the first.
+/// Some places as a job of the worker pool: block b is the text of the place that stands so far behind the first.
 #[derive(Drop)]
 pub(crate) struct Stretch<'a> {
     pub(crate) lines: &'a CutLines<'a>,

@@ -8,7 +8,7 @@ use crate::{CandidateLegs, PriceScratch, Values, set_origin_prices};
 use claim_board::Job;
 use std::alloc::{AllocError, Global};
 
-/// The origins as a crew's work, for the prices of each: block i is origin i.
+/// The origins as a job of the worker pool, for the prices of each: block i is origin i.
 #[derive(Drop)]
 pub(crate) struct PricesByOrigin<'a> {
     pub(crate) tables: &'a CandidateLegs<'a>,
