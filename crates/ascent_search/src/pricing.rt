@@ -70,7 +70,7 @@ impl Pricing {
         )
     }
 
-    /// Computes the loads of the cut of the values, whose prices are known, and returns its total.
+    /// Computes the loads of the Benders cut from the values, whose prices are known, and returns its total.
     pub(crate) fn sum(&mut self, tables: &CandidateLegs) -> u128
         requires fit { IsPricingFor tables.now self.old }
         requires prices { AreRowPrices tables.now self.old.values self.old.prices.items }
