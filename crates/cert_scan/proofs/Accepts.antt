@@ -17,17 +17,16 @@ use Rattle.cert_spec.proofs.Versions.{later_not_first, later_most, third_is_late
 use Rattle.cert_scan.specs.Moves.{move, more_by, whole_by, within, may_fill, bare_filled_by, moved_by, cut_by, part_by, alone, first_dual_of, stage_after_cuts, stage_after_filled}
 use Rattle.cert_scan.specs.Scans.{shape_by, line_by}
 use Rattle.cert_scan.specs.Versions.{version_number, version_of}
-use Rattle.cert_scan.proofs.Walks.{Walk}
+use Rattle.cert_scan.proofs.Goes.{Walk, Goes, goes_append, goes_byte, goes_number, goes_taken, state}
 use Rattle.cert_scan.proofs.Versions.{number_back}
 use Rattle.cert_scan.specs.Parts.{none_left}
-use Rattle.cert_scan.specs.Pieces.{Piece, told_hubs, told_mark, told_values, told_ways, told_weights, word_piece, number_pieces, spaced, mark_pieces, pieces_of}
-use Rattle.cert_scan.proofs.Goes.{Goes, goes_append, goes_byte, goes_number, goes_taken, state}
+use Rattle.cert_scan.specs.Pieces.{told_hubs, told_mark, told_values, told_ways, told_weights, word_piece, number_pieces, spaced, mark_pieces, pieces_of}
 use Rattle.cert_scan.proofs.Climbs.{climbs_from}
 use Rattle.cert_scan.proofs.StagesAt.{stage_at, text_shape, number_of, IsRunOf, alone_run, IsCommodity, NamesNodes, IsAt, commodity_named, cuts_at, dual_at, proof_at, tree_at}
 use Rattle.cert_scan.proofs.Passing.{Passes}
 use Rattle.cert_scan.specs.declared.items.Version.TheVariants.{First, Second, Third}
 use Rattle.cert_scan.specs.declared.items.Item.{Item}
-use Rattle.cert_scan.specs.declared.items.Item.TheVariants.{Version as version_item, Size as size_item, Cost as cost_item, Bound as bound_item, Hub as hub_item, Route as route_item, Cuts as cuts_item, Cut as cut_item, CoreHub as core_item, Dual as dual_item, Proof as proof_item, Nodes as nodes_item, Branch as branch_item, Leaf as leaf_item, Empty as empty_item, Block as block_item, Count as count_item, End as end_item}
+use Rattle.cert_scan.specs.declared.items.Item.TheVariants.{Version as version_item, Size as size_item, Cost as cost_item, Bound as bound_item, Hub as hub_item, Route as route_item, Cuts as cuts_item, Cut as cut_item, CoreHub as core_item, Proof as proof_item, Nodes as nodes_item, Branch as branch_item, Leaf as leaf_item, Empty as empty_item, Block as block_item, Count as count_item, End as end_item}
 use Rattle.cert_scan.specs.declared.bytes.Position.TheVariants.{Start, Keyword, Number}
 use Rattle.cert_scan.specs.declared.heads.Head.{Head}
 use Rattle.cert_scan.specs.declared.heads.Head.TheVariants.{MarkWord, EmptyLine, CountLine}
@@ -40,13 +39,11 @@ use Rattle.cert_scan.specs.declared.stages.Stage.TheVariants.{Version, Size, Cos
 use Rattle.cert_scan.specs.declared.items.Version.{Version as TextVersion}
 use Rattle.cert_scan.specs.declared.stages.Run.{Run}
 use Rattle.cert_scan.specs.declared.stages.Shape.{Shape}
-use Rattle.cert_scan.proofs.NumberReads.{Reads, Ends, ends_line, ends_more, ends_numbers, keyword_passes, next_passes, allows, is_within, last_number}
-use Rattle.cert_scan.proofs.ListReads.{is_hub, reads_hubs, reads_mark, node_of, is_weight, DualClimbs, dual_climbs, starts_high}
-use Rattle.cert_scan.proofs.ProofReads.{reads_proof}
-use Rattle.cert_scan.proofs.LineReads.{first_shape, second_shape, third_shape, cut_fits, reads_size, reads_route, reads_whole_cut, reads_cut_part, told_price, node_told, reads_dual, reads_proved, reads_run, reads_branch, reads_leaf, reads_block}
+use Rattle.cert_scan.proofs.ReadLines.{Reads, Ends, ends_line, ends_more, ends_numbers, keyword_passes, next_passes, allows, is_within, last_number, ReadsOn, is_hub, reads_hubs, reads_mark, node_of, is_weight, DualClimbs, dual_climbs, starts_high, reads_proof, first_shape, second_shape, third_shape, cut_fits, reads_size, reads_route, reads_whole_cut, reads_cut_part, told_price, node_told, reads_dual, reads_proved, reads_run, reads_branch, reads_leaf, reads_block}
 
 hub_line : (sh : Shape) (line : ℕ) (hubs : List ℕ) → IsSize sh.n → wants (want_hubs (text_shape sh)) (says_hubs hubs) ≡ true
     → Ends (state sh line (Start Hubs)) (pieces_of (says_hubs hubs)) (grammar.want_route (text_shape sh) 0)
+unfolding ReadsOn
 hub_line sh line [] size h = absurd (false≢true h)
 hub_line sh line (k ∷ rest) size h =
     let a = and_parts (nat_le 1 (length (k ∷ rest))) (ascends (k ∷ rest) && list_all (is_hub sh.n) (k ∷ rest)) h in
@@ -54,12 +51,13 @@ hub_line sh line (k ∷ rest) size h =
     let up : ascends (map (λ x. x) (k ∷ rest)) ≡ true = ap ascends (map-id (k ∷ rest)) ∙ b.0 in
     let climbs = climbs_from (is_hub sh.n) (λ x. x) 0 (k ∷ rest) (omega arith) up b.1 in
     ends_line sh line Hubs (HubNode 0) (codes "hubs") (k + 1, Some (hub_item k (none_left rest))) (told_hubs rest) (grammar.want_route (text_shape sh) 0) refl refl
-    (reads_hubs sh 0 k rest climbs.0 size climbs.1)
+    (reads_hubs sh 0 (k ∷ rest) climbs.0 size climbs.1)
 
 -- the hubs of a mark, behind its word
 mark_line : (n line all before part : ℕ) (hubs : List ℕ) → IsSize n → before < all → all ≤ most_cuts → 1 ≤ part → part ≤ most_part → are_mark_hubs n hubs ≡ true
     → Ends (state (third_shape n) line (Start (Cut all before))) (pieces_of (says_marked (before + 1) part hubs))
     (grammar.want_proved (text_shape (third_shape n)) all before 0)
+unfolding ReadsOn
 mark_line n line all before part [] size low few some most h = absurd (false≢true h)
 mark_line n line all before part (k ∷ rest) size low few some most h =
     let sh = third_shape n in
@@ -73,7 +71,7 @@ mark_line n line all before part (k ∷ rest) size low few some most h =
     let cut : Item = cut_item (before + 1) part false in
     let behind_it = grammar.want_proved (text_shape (third_shape n)) all before 0 in
     let reads = subst (λ x. Reads (third_shape n) (MarkHub at 0) (told_mark (k ∷ rest)) (grammar.want_proved (text_shape (third_shape n)) all x 0)) back
-    (reads_mark (third_shape n) at 0 k rest climbs.0 size climbs.1) in
+    (reads_mark (third_shape n) at 0 (k ∷ rest) climbs.0 size climbs.1) in
     let start = state sh line (Start (Cut all before)) in
     let number = state sh line (Number (CutNumber all before) None) in
     let parted = state sh line (Number (CutPart all (before + 1)) None) in
@@ -133,57 +131,28 @@ proof_line sh line d proof size place c ok =
     ((proof.scale, Some (proof_item proof.turns proof.scale (none_left proof.ways))) ∷ told_ways proof.ways) behind_it refl refl
     (reads_proof sh d proof behind_it size.1 (proof_at sh d place c) ok)
 
--- the pieces of the dual of several
--- their numbers with what each tells
-abbrev several_told : ℕ × ℕ → ℕ → Prices → List (ℕ × Option Item)
-several_told c length dual =
-    (c.1 + 1, None) ∷ (length, None) ∷ (dual.a, Some (dual_item c.0 c.1 length dual.a (none_left dual.u))) ∷ told_values dual.u
-
-abbrev several : ℕ × ℕ → ℕ → Prices → List Piece
-several c length dual =
-    let told : ℕ × Option Item = (c.0 + 1, None) in
-    word_piece (codes "duals") (told ∷ several_told c length dual) None ∷ number_pieces (told ∷ several_told c length dual)
-
-several_pieces : (c : ℕ × ℕ) (length : ℕ) (dual : Prices) → nat_eq length 1 ≡ false
-    → pieces_of (says_dual c length dual) ≡ several c length dual
-several_pieces c length dual e = rw e refl
-
--- a shape of a later version, where the first word of a dual may go on
-abbrev StartsDuals : Shape → Type 0
-StartsDuals sh = (line : ℕ) (d : DualAt) → Goes (state sh line (Start (Dual d))) (codes "duals" ++ 32 ∷ []) [] (state sh line (Number (RunFrom d) None))
-
--- the dual of several commodities, in a later version
-several_line : (sh : Shape) (line : ℕ) (run : Run) (dual : Prices) (before : Option Prices) → StartsDuals sh → IsSize sh.n → run.first.before < run.first.all
-    → IsCommodity sh.n run.first.commodity → 2 ≤ run.length → IsRunOf sh run → DualClimbs sh dual
-    → Ends (state sh line (Start (Dual run.first))) (several (run.first.commodity.from, run.first.commodity.to) run.length dual)
-    (grammar.after_dual (text_shape sh) run.first.all run.first.before (number_of sh.n run.first.commodity + run.length) before)
-several_line sh line run dual before starts size place c several_of is h =
-    let behind_it = grammar.after_dual (text_shape sh) run.first.all run.first.before (number_of sh.n run.first.commodity + run.length) before in
-    let start = starts line run.first in
-    ends_line sh line (Dual run.first) (RunFrom run.first) (codes "duals") (node_told run.first.commodity.from)
-    (several_told (run.first.commodity.from, run.first.commodity.to) run.length dual) behind_it start.items start.scan
-    (reads_run sh run dual.a dual.u h.high behind_it size.1 c several_of is (dual_at sh run before place c is) h.price h.climbs)
-
 at_least_two : (k : ℕ) → 1 ≤ k → k ≢ 1 → 2 ≤ k
 at_least_two zero some other = absurd (omega (arith, some))
 at_least_two (suc zero) some other = absurd (other refl)
 at_least_two (suc (suc k)) some other = omega arith
 
+-- the dual of several commodities, where the first word of a dual may go on
+several_line : (sh : Shape) (line : ℕ) (run : Run) (dual : Prices) (before : Option Prices)
+    → Goes (state sh line (Start (Dual run.first))) (codes "duals" ++ 32 ∷ []) [] (state sh line (Number (RunFrom run.first) None)) → IsSize sh.n
+    → run.first.before < run.first.all → IsCommodity sh.n run.first.commodity → IsRunOf sh run → DualClimbs sh dual → nat_eq run.length 1 ≡ false
+    → Ends (state sh line (Start (Dual run.first))) (pieces_of (says_dual (run.first.commodity.from, run.first.commodity.to) run.length dual))
+    (grammar.after_dual (text_shape sh) run.first.all run.first.before (number_of sh.n run.first.commodity + run.length) before)
+several_line sh line run dual before start size place c is h e =
+    let behind_it = grammar.after_dual (text_shape sh) run.first.all run.first.before (number_of sh.n run.first.commodity + run.length) before in
+    let some = is.some in
+    let other : run.length ≢ 1 = λ one. false≢true (sym e ∙ eq-eqb run.length 1 one) in
+    rw e (ends_line sh line (Dual run.first) (RunFrom run.first) (codes "duals") (node_told run.first.commodity.from)
+    (node_told run.first.commodity.to ∷ (run.length, None) ∷ told_price run dual.a (none_left dual.u) ∷ told_values dual.u) behind_it start.items start.scan
+    (reads_run sh run dual.a dual.u h.high behind_it size.1 c (at_least_two run.length some other) is (dual_at sh run before place c is) h.price h.climbs))
+
 -- a shape by its parts
 abbrev shape_of : TextVersion → ℕ → Shape
 shape_of v n = record { version = v; n = n }
-
-several_from : (sh : Shape) (line : ℕ) (d : DualAt) (length : ℕ) (dual : Prices) (before : Option Prices) → StartsDuals sh → IsSize sh.n → d.before < d.all
-    → IsCommodity sh.n d.commodity → IsRunOf sh (record { first = d; length = length }) → DualClimbs sh dual → nat_eq length 1 ≡ false
-    → Ends (state sh line (Start (Dual d))) (pieces_of (says_dual (d.commodity.from, d.commodity.to) length dual))
-    (grammar.after_dual (text_shape sh) d.all d.before (number_of sh.n d.commodity + length) before)
-several_from sh line d length dual before starts size place c is h e =
-    let some = is.some in
-    let other : length ≢ 1 = λ one. false≢true (sym e ∙ eq-eqb length 1 one) in
-    subst (λ pieces. Ends (state sh line (Start (Dual d))) pieces
-    (grammar.after_dual (text_shape sh) d.all d.before (number_of sh.n d.commodity + length) before))
-    (sym (several_pieces (d.commodity.from, d.commodity.to) length dual e))
-    (several_line sh line (record { first = d; length = length }) dual before starts size place c (at_least_two length some other) is h)
 
 dual_line-several : (v : TextVersion) (n line : ℕ) (d : DualAt) (length : ℕ) (dual : Prices) (before : Option Prices) → IsSize n → d.before < d.all
     → IsCommodity n d.commodity → IsRunOf (shape_of v n) (record { first = d; length = length }) → DualClimbs (shape_of v n) dual → nat_eq length 1 ≡ false
@@ -191,9 +160,9 @@ dual_line-several : (v : TextVersion) (n line : ℕ) (d : DualAt) (length : ℕ)
     (grammar.after_dual (text_shape (shape_of v n)) d.all d.before (number_of n d.commodity + length) before)
 dual_line-several First n line d length dual before size place c is h e = absurd (false≢true (sym e ∙ eq-eqb length 1 (is.first refl)))
 dual_line-several Second n line d length dual before size place c is h e =
-    several_from (second_shape n) line d length dual before (λ line d. record { scan = refl; items = refl }) size place c is h e
+    several_line (second_shape n) line (record { first = d; length = length }) dual before (record { scan = refl; items = refl }) size place c is h e
 dual_line-several Third n line d length dual before size place c is h e =
-    several_from (third_shape n) line d length dual before (λ line d. record { scan = refl; items = refl }) size place c is h e
+    several_line (third_shape n) line (record { first = d; length = length }) dual before (record { scan = refl; items = refl }) size place c is h e
 
 dual_line : (v : TextVersion) (n line : ℕ) (d : DualAt) (length : ℕ) (dual : Prices) (before : Option Prices) → IsSize n → d.before < d.all → IsCommodity n d.commodity
     → IsRunOf (shape_of v n) (record { first = d; length = length }) → DualClimbs (shape_of v n) dual
@@ -256,32 +225,23 @@ empty_line sh line t room =
     bare_line sh line t (EmptyLine t) (codes "empty") empty_item room start refl refl
 
 -- blocks and counts, which are of the later versions
-abbrev StartsCount : Shape → Type 0
-StartsCount sh = (line : ℕ) (t : TreeAt) → Goes (state sh line (Start (Tree t))) (codes "count") [] (state sh line (Keyword (CountLine t) 5))
-
-abbrev StartsBlock : Shape → Type 0
-StartsBlock sh = (line : ℕ) (t : TreeAt) → Goes (state sh line (Start (Tree t))) (codes "block" ++ 32 ∷ []) [] (state sh line (Number (BlockFrom t) None))
-
-starts_count : (v : TextVersion) (n : ℕ) → (version_number v ≡ 1 → ⊥) → StartsCount (shape_of v n)
-starts_count First n later line t = absurd (later refl)
-starts_count Second n later line t = record { scan = refl; items = refl }
-starts_count Third n later line t = record { scan = refl; items = refl }
-
-starts_block : (v : TextVersion) (n : ℕ) → (version_number v ≡ 1 → ⊥) → StartsBlock (shape_of v n)
-starts_block First n later line t = absurd (later refl)
-starts_block Second n later line t = record { scan = refl; items = refl }
-starts_block Third n later line t = record { scan = refl; items = refl }
-
 count_line : (v : TextVersion) (n line : ℕ) (t : TreeAt) → (version_number v ≡ 1 → ⊥) → may_fill t ≡ true
     → Ends (state (shape_of v n) line (Start (Tree t))) (pieces_of (says_tree no_count)) (grammar.after_tree (text_shape (shape_of v n)) (t.places - 1) (t.left - 1))
-count_line v n line t later room = bare_line (shape_of v n) line t (CountLine t) (codes "count") count_item room (starts_count v n later line t) refl refl
+count_line First n line t later room = absurd (later refl)
+count_line Second n line t later room =
+    bare_line (second_shape n) line t (CountLine t) (codes "count") count_item room (record { scan = refl; items = refl }) refl refl
+count_line Third n line t later room =
+    bare_line (third_shape n) line t (CountLine t) (codes "count") count_item room (record { scan = refl; items = refl }) refl refl
 
 block_line : (v : TextVersion) (n line : ℕ) (t : TreeAt) (c : ℕ × ℕ) → n ≤ most_nodes → c.0 < n → c.1 < n → (version_number v ≡ 1 → ⊥) → may_fill t ≡ true
     → Ends (state (shape_of v n) line (Start (Tree t))) (pieces_of (says_tree (no_route c))) (grammar.after_tree (text_shape (shape_of v n)) (t.places - 1) (t.left - 1))
-block_line v n line t c few from to later room =
-    let start = starts_block v n later line t in
-    ends_line (shape_of v n) line (Tree t) (BlockFrom t) (codes "block") (c.0 + 1, None) ((c.1 + 1, Some (block_item c.0 c.1)) ∷ [])
-    (grammar.after_tree (text_shape (shape_of v n)) (t.places - 1) (t.left - 1)) start.items start.scan (reads_block (shape_of v n) t c.0 c.1 few from to room)
+block_line First n line t c few from to later room = absurd (later refl)
+block_line Second n line t c few from to later room =
+    ends_line (second_shape n) line (Tree t) (BlockFrom t) (codes "block") (c.0 + 1, None) ((c.1 + 1, Some (block_item c.0 c.1)) ∷ [])
+    (grammar.after_tree (text_shape (second_shape n)) (t.places - 1) (t.left - 1)) refl refl (reads_block (second_shape n) t c.0 c.1 few from to room)
+block_line Third n line t c few from to later room =
+    ends_line (third_shape n) line (Tree t) (BlockFrom t) (codes "block") (c.0 + 1, None) ((c.1 + 1, Some (block_item c.0 c.1)) ∷ [])
+    (grammar.after_tree (text_shape (third_shape n)) (t.places - 1) (t.left - 1)) refl refl (reads_block (third_shape n) t c.0 c.1 few from to room)
 
 -- where a line is open, so is it by the test
 room_for : (t : TreeAt) → IsOpen (t.places - 1) (t.left - 1) → may_fill t ≡ true

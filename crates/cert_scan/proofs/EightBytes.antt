@@ -315,15 +315,6 @@ combined p q r s x y z w pairs P Q R S X Y Z W e =
 
 -- they give the number that eight digits spell
 pub joined_is : (ds : List ℕ) (word : ℕ) → AreEight 10 ds → word ≡ word_of ds → product word ≡ spelled 0 ds
-joined_is [] word h e = absurd (omega (arith, h.eight))
-joined_is (a ∷ []) word h e = absurd (omega (arith, h.eight))
-joined_is (a ∷ b ∷ []) word h e = absurd (omega (arith, h.eight))
-joined_is (a ∷ b ∷ c ∷ []) word h e = absurd (omega (arith, h.eight))
-joined_is (a ∷ b ∷ c ∷ d ∷ []) word h e = absurd (omega (arith, h.eight))
-joined_is (a ∷ b ∷ c ∷ d ∷ f ∷ []) word h e = absurd (omega (arith, h.eight))
-joined_is (a ∷ b ∷ c ∷ d ∷ f ∷ g ∷ []) word h e = absurd (omega (arith, h.eight))
-joined_is (a ∷ b ∷ c ∷ d ∷ f ∷ g ∷ i ∷ []) word h e = absurd (omega (arith, h.eight))
-joined_is (a ∷ b ∷ c ∷ d ∷ f ∷ g ∷ i ∷ j ∷ k ∷ ds) word h e = absurd (omega (arith, h.eight))
 joined_is (a ∷ b ∷ c ∷ d ∷ f ∷ g ∷ i ∷ j ∷ []) word h e =
     let low = h.below in
     let rest = b + 256 * (c + 256 * (d + 256 * (f + 256 * (g + 256 * (i + 256 * (j + 256 * 0)))))) in
@@ -337,3 +328,4 @@ joined_is (a ∷ b ∷ c ∷ d ∷ f ∷ g ∷ i ∷ j ∷ []) word h e =
     rw (mod-eq_of_lt tens, shifted, mod-eq_of_lt all) (omega arith) in
     combined (10 * a + b) (10 * c + d) (10 * f + g) (10 * i + j) (10 * b + c) (10 * d + f) (10 * g + i) (10 * j) _ (omega arith) (omega arith) (omega arith) (omega arith)
     (omega arith) (omega arith) (omega arith) (omega arith) pairs ∙ omega arith
+joined_is ds word h e = absurd (omega (arith, h.eight))

@@ -23,10 +23,10 @@ use Rattle.cert_scan.specs.declared.items.Item.{Item}
 use Rattle.cert_scan.specs.declared.items.Fault.{Fault}
 use Rattle.cert_scan.specs.declared.items.Fault.TheVariants.{BadLine, Ended}
 use Rattle.cert_scan.specs.declared.bytes.Position.{Position}
-use Rattle.cert_scan.specs.declared.bytes.Position.TheVariants.{Start, Number, Keyword, Spoiled, Failed}
+use Rattle.cert_scan.specs.declared.bytes.Position.TheVariants.{Start, Failed}
 use Rattle.cert_scan.specs.declared.stages.Shape.{Shape}
 use Rattle.cert_scan.specs.declared.stages.Stage.{Stage}
-use Rattle.cert_scan.specs.declared.stages.Stage.TheVariants.{Version, Size, Cost, Bound, Hubs, Route, Cuts, Cut, Dual, ProvedDual, Proof, Nodes, Tree, End, Nothing}
+use Rattle.cert_scan.specs.declared.stages.Stage.TheVariants.{Nothing}
 use Rattle.cert_scan.specs.declared.scanner.Scan.{Scan}
 
 -- a text has some part
@@ -143,34 +143,19 @@ Outcome bytes given sh line position so_far h = ((fault_at line position ≡ Non
 
 start_outcome : {bytes : List ℕ} {given : List Item} {sh : Shape} {line : ℕ} {so_far : DualSoFar} (s : Stage) (h : Tracks bytes given sh line (Start s) so_far) → Outcome bytes given sh line (Start s) so_far h
 unfolding Outcome
-start_outcome Version h = let is = h.now.here.0 in inr (ended_there h h.now.plain (λ e. cc) refl)
-start_outcome Size h = let is = h.now.here.0 in inr (ended_there h h.now.plain (λ e. cc) refl)
-start_outcome Cost h = let is = h.now.here.0 in inr (ended_there h h.now.plain (λ e. cc) refl)
-start_outcome Bound h = let is = h.now.here.0 in inr (ended_there h h.now.plain (λ e. cc) refl)
-start_outcome Hubs h = let is = h.now.here.0 in inr (ended_there h h.now.plain (λ e. cc) refl)
-start_outcome (Route c) h = let is = h.now.here.0 in inr (ended_there h h.now.plain (λ e. cc) refl)
-start_outcome Cuts h = let is = h.now.here.0 in inr (ended_there h h.now.plain (λ e. cc) refl)
-start_outcome (Cut all before) h = let is = h.now.here.0 in inr (ended_there h h.now.plain (λ e. cc) refl)
-start_outcome (Dual d) h = let is = h.now.here.0 in inr (ended_there h h.now.plain (λ e. cc) refl)
-start_outcome (ProvedDual d) h = let is = h.now.here.0 in inr (ended_there h h.now.plain (λ e. cc) refl)
-start_outcome (Proof d) h = let is = h.now.here.0 in inr (ended_there h h.now.plain (λ e. cc) refl)
-start_outcome Nodes h = let is = h.now.here.0 in inr (ended_there h h.now.plain (λ e. cc) refl)
-start_outcome (Tree d) h = let is = h.now.here.0 in inr (ended_there h h.now.plain (λ e. cc) refl)
-start_outcome End h = let is = h.now.here.0 in inr (ended_there h h.now.plain (λ e. cc) refl)
 start_outcome Nothing h = inl (refl, whole h)
+start_outcome s h = let is = h.now.here.0 in inr (ended_there h h.now.plain (λ e. cc) refl)
 
 outcome_at : {bytes : List ℕ} {given : List Item} {sh : Shape} {line : ℕ} {so_far : DualSoFar} (position : Position) (h : Tracks bytes given sh line position so_far) → Outcome bytes given sh line position so_far h
 unfolding Outcome
 outcome_at (Start s) h = start_outcome s h
-outcome_at (Keyword head matched) h = inr (ended_there h h.now.plain h.now.busy refl)
-outcome_at (Number place value) h = inr (ended_there h h.now.plain h.now.busy refl)
-outcome_at Spoiled h = inr (ended_there h h.now.plain h.now.busy refl)
 outcome_at {bytes = bytes} {line = line} Failed h = inr (record {
   told = BadLine line;
   is = refl;
   fault = λ same. subst (λ l. IsTextFault bytes (bad_line l)) (sym same) (bad_fault h);
   some = (bad_line (length h.lines + 1), bad_fault h);
 })
+outcome_at position h = inr (ended_there h h.now.plain h.now.busy refl)
 
 -- what finish tells
 tells_none : (bytes : List ℕ) (given : List Item) (fault : Option Fault) → fault ≡ None → IsWhole bytes given → Tells bytes fault
@@ -245,15 +230,12 @@ same_line : (a b : ℕ) → bad_line a ≡ bad_line b → a ≡ b
 same_line a b e = cc
 
 line_of : {bytes : List ℕ} {given : List Item} {sh : Shape} {line : ℕ} {so_far : DualSoFar} (position : Position) (h : Tracks bytes given sh line position so_far) → line ≡ length h.lines + 1 → IsLineAtHand bytes line
-line_of (Start s) h same = line_good (Start s) h h.now.plain (λ e. cc) same
-line_of (Keyword head matched) h same = line_good (Keyword head matched) h h.now.plain (λ e. cc) same
-line_of (Number place value) h same = line_good (Number place value) h h.now.plain (λ e. cc) same
-line_of Spoiled h same = line_good Spoiled h h.now.plain (λ e. cc) same
 line_of {bytes = bytes} Failed h same = record {
   good = λ none. absurd (none (length h.lines + 1) (bad_fault h));
   bad = λ bad f. same ∙ same_line (length h.lines + 1) bad
       ((each_is_text_or_fault_lem bytes).one_fault (bad_line (length h.lines + 1)) (bad_line bad) (bad_fault h) f);
 }
+line_of position h same = line_good position h h.now.plain (λ e. cc) same
 
 -- the number of the line at hand
 pub scanned_line : (bytes : List ℕ) (given : List Item) (scan : Scan) → HasScanned bytes given scan → AreCountable bytes → IsLineAtHand bytes scan.line

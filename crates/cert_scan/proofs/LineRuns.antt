@@ -1,64 +1,71 @@
--- The first word of a line, taken at once.
-use Rattle.std.proofs.Common.{◌≡◌, ℕ, zero, suc, ◌+◌, ◌<◌, ◌≤◌, false, ◌&&◌, List, [], ◌∷◌, ◌++◌, length, take, get_or, Some, None, nat_eq, nat_lt, refl, sym, ap, ◌∙◌, arith}
-use Rattle.std.specs.Prelude.{option_to_list, if◌then◌else◌}
-use Rattle.std.proofs.lemmas.Bool.{ltb-true}
+-- Letters of the first word of a line, and the whole word.
+use Rattle.std.proofs.Common.{◌≡◌, ℕ, ◌+◌, ◌<◌, ◌&&◌, List, [], ◌∷◌, ◌++◌, length, get_or, nat_eq, nat_lt, refl, sym, ap, ◌∙◌, arith, zero, suc, ◌≤◌, false, take, Some, None}
+use Rattle.std.proofs.lemmas.Bool.{cond-true, and_from, lt-ltb, eq-eqb, ltb-true}
+use Rattle.cert_scan.specs.Moves.{move, keyword_of, moved_by, head_at, first_place_of, begun_as, spoiled_by, behind_keyword_by, turned_by, turned_or, first_number_by}
+use Rattle.cert_scan.specs.Scans.{put, scanned, given_all, sifted, moved}
+use Rattle.cert_scan.specs.Runs.{GoesOn, Takes}
+use Rattle.cert_scan.proofs.ScanBytes.{quiet_scanned, quiet_given, quiet_step, quiet_gives}
+use Rattle.cert_scan.specs.declared.bytes.Position.TheVariants.{Keyword, Start, Number}
+use Rattle.cert_scan.specs.declared.heads.Head.{Head}
+use Rattle.cert_scan.specs.declared.stages.Shape.{Shape}
+use Rattle.cert_scan.specs.declared.scanner.Scan.{Scan}
+use Rattle.std.specs.Prelude.{None, option_to_list, if◌then◌else◌}
 use Rattle.std.proofs.lemmas.List.{length-take-le}
 use Rattle.std.proofs.lemmas.Option.{none-some}
 use Rattle.hub_spec.proofs.SumLemmas.{by_test}
-use Rattle.cert_scan.specs.Moves.{move, moved_by, head_at, keyword_of, first_place_of, begun_as, spoiled_by, behind_keyword_by, turned_by, turned_or, first_number_by}
-use Rattle.cert_scan.specs.Scans.{put, sifted, moved, scanned, given_all}
-use Rattle.cert_scan.specs.Runs.{GoesOn, Takes}
-use Rattle.cert_scan.proofs.ScanBytes.{quiet_step, quiet_gives}
-use Rattle.cert_scan.proofs.Letters.{letters_scanned, letters_give}
 use Rattle.cert_scan.proofs.Stepping.{HasRun, run_byte, takes_nothing}
-use Rattle.cert_scan.specs.declared.bytes.Position.TheVariants.{Start, Keyword, Number}
-use Rattle.cert_scan.specs.declared.heads.Head.{Head}
-use Rattle.cert_scan.specs.declared.heads.Head.TheVariants.{VersionLine, SizeLine, CostLine, BoundLine, HubsLine, RouteLine, CutsLine, CutLine, MarkWord, DualLine, DualsLine, ProvedLine, ProofLine, NodesLine, BranchLine, LeafLine, EmptyLine, BlockLine, CountLine, EndLine}
+use Rattle.cert_scan.specs.declared.heads.Head.TheVariants.{VersionLine}
 use Rattle.cert_scan.specs.declared.places.Place.{Place}
-use Rattle.cert_scan.specs.declared.stages.Shape.{Shape}
 use Rattle.cert_scan.specs.declared.stages.Stage.{Stage}
-use Rattle.cert_scan.specs.declared.stages.Stage.TheVariants.{Version, Size, Cost, Bound, Hubs, Route, Cuts, Cut, Dual, ProvedDual, Proof, Nodes, Tree, End, Nothing}
-use Rattle.cert_scan.specs.declared.scanner.Scan.{Scan}
+use Rattle.cert_scan.specs.declared.stages.Stage.TheVariants.{Nothing}
+
+-- one letter more
+pub letters_more : (word : List ℕ) (matched : ℕ) (bytes : List ℕ) (byte : ℕ) → GoesOn word matched bytes → matched + length bytes < length word
+    → byte ≡ get_or word (matched + length bytes) 0 → GoesOn word matched (bytes ++ byte ∷ [])
+letters_more word matched [] byte h low is = (omega arith, is ∙ ap (λ k. get_or word k 0) (let none : matched + 0 ≡ matched = omega arith in none), tt)
+letters_more word matched (b ∷ bytes) byte h low is =
+    let next : matched + length (b ∷ bytes) ≡ matched + 1 + length bytes = omega arith in
+    (h.0, h.1, letters_more word (matched + 1) bytes byte h.2 (omega (arith, low)) (is ∙ ap (λ k. get_or word k 0) next))
+
+letter_moves : (sh : Shape) (head : Head) (matched byte : ℕ) → matched < length (keyword_of head) → byte ≡ get_or (keyword_of head) matched 0
+    → moved_by sh (Keyword head matched) byte ≡ move (Keyword head (matched + 1)) None
+letter_moves sh head matched byte low is =
+    cond-true (nat_lt matched (length (keyword_of head)) && nat_eq byte (get_or (keyword_of head) matched 0)) _ _
+    (and_from (nat_lt matched (length (keyword_of head))) (nat_eq byte (get_or (keyword_of head) matched 0)) (lt-ltb matched (length (keyword_of head)) low)
+    (eq-eqb byte (get_or (keyword_of head) matched 0) is))
+
+pub letters_scanned : (s : Scan) (head : Head) (matched : ℕ) (bytes : List ℕ) → GoesOn (keyword_of head) matched bytes
+    → scanned (put s (Keyword head matched)) bytes ≡ put s (Keyword head (matched + length bytes))
+letters_scanned s head matched [] h = ap (λ k. put s (Keyword head k)) (let none : matched ≡ matched + 0 = omega arith in none)
+letters_scanned s head matched (byte ∷ bytes) h =
+    let next : matched + 1 + length bytes ≡ matched + length (byte ∷ bytes) = omega arith in
+    quiet_scanned (put s (Keyword head matched)) (put s (Keyword head (matched + length (byte ∷ bytes)))) byte (Keyword head (matched + 1)) bytes
+    (letter_moves s.shape head matched byte h.0 h.1) (letters_scanned s head (matched + 1) bytes h.2 ∙ ap (λ k. put s (Keyword head k)) next)
+
+pub letters_give : (s : Scan) (head : Head) (matched : ℕ) (bytes : List ℕ) → GoesOn (keyword_of head) matched bytes → given_all (put s (Keyword head matched)) bytes ≡ []
+letters_give s head matched [] h = refl
+letters_give s head matched (byte ∷ bytes) h =
+    quiet_given (put s (Keyword head matched)) byte (Keyword head (matched + 1)) bytes (letter_moves s.shape head matched byte h.0 h.1)
+    (letters_give s head (matched + 1) bytes h.2)
+
+-- letters that go on with the first word
+pub letters_after : (s : Scan) (head : Head) (matched count : ℕ) (bytes : List ℕ) → s.position ≡ Keyword head matched → GoesOn (keyword_of head) matched bytes
+    → length bytes ≡ count → put s (Keyword head (matched + count)) ≡ scanned s bytes
+letters_after s head matched count bytes e h long =
+    ap (λ k. put s (Keyword head (matched + k))) (sym long) ∙ sym (letters_scanned s head matched bytes h) ∙ ap (λ p. scanned (put s p) bytes) (sym e)
+
+pub letters_nothing : (s : Scan) (head : Head) (matched : ℕ) (bytes : List ℕ) → s.position ≡ Keyword head matched → GoesOn (keyword_of head) matched bytes
+    → given_all s bytes ≡ []
+letters_nothing s head matched bytes e h = ap (λ p. given_all (put s p) bytes) e ∙ letters_give s head matched bytes h
 
 -- a line begins as its first word does
 start_moves : (sh : Shape) (stage : Stage) (head : Head) (byte : ℕ) → head_at sh.version stage byte ≡ Some head → moved_by sh (Start stage) byte ≡ moved_by sh (Keyword head 0) byte
 start_moves sh Nothing head byte e = absurd (none-some head e)
-start_moves sh Version head byte e = ap (λ h. begun_as sh.version h byte) e
-start_moves sh Size head byte e = ap (λ h. begun_as sh.version h byte) e
-start_moves sh Cost head byte e = ap (λ h. begun_as sh.version h byte) e
-start_moves sh Bound head byte e = ap (λ h. begun_as sh.version h byte) e
-start_moves sh Hubs head byte e = ap (λ h. begun_as sh.version h byte) e
-start_moves sh (Route c) head byte e = ap (λ h. begun_as sh.version h byte) e
-start_moves sh Cuts head byte e = ap (λ h. begun_as sh.version h byte) e
-start_moves sh (Cut all before) head byte e = ap (λ h. begun_as sh.version h byte) e
-start_moves sh (Dual d) head byte e = ap (λ h. begun_as sh.version h byte) e
-start_moves sh (ProvedDual d) head byte e = ap (λ h. begun_as sh.version h byte) e
-start_moves sh (Proof d) head byte e = ap (λ h. begun_as sh.version h byte) e
-start_moves sh Nodes head byte e = ap (λ h. begun_as sh.version h byte) e
-start_moves sh (Tree t) head byte e = ap (λ h. begun_as sh.version h byte) e
-start_moves sh End head byte e = ap (λ h. begun_as sh.version h byte) e
+start_moves sh stage head byte e = ap (λ h. begun_as sh.version h byte) e
 
 keyword_some : (head : Head) → 1 ≤ length (keyword_of head)
 keyword_some VersionLine = omega arith
-keyword_some SizeLine = omega arith
-keyword_some CostLine = omega arith
-keyword_some BoundLine = omega arith
-keyword_some HubsLine = omega arith
-keyword_some (RouteLine c) = omega arith
-keyword_some CutsLine = omega arith
-keyword_some (CutLine all before) = omega arith
-keyword_some (MarkWord at) = omega arith
-keyword_some (DualLine d) = omega arith
-keyword_some (DualsLine d) = omega arith
-keyword_some (ProvedLine d) = omega arith
-keyword_some (ProofLine d) = omega arith
-keyword_some NodesLine = omega arith
-keyword_some (BranchLine t) = omega arith
-keyword_some (LeafLine t) = omega arith
-keyword_some (EmptyLine t) = omega arith
-keyword_some (BlockLine t) = omega arith
-keyword_some (CountLine t) = omega arith
-keyword_some EndLine = omega arith
+keyword_some head = omega arith
 
 -- the letters of the whole word
 pub word_run : (old : Scan) (stage : Stage) (head : Head) (bytes : List ℕ) (count : ℕ) → old.position ≡ Start stage → head_at old.shape.version stage (get_or bytes 0 0) ≡ Some head

@@ -11,14 +11,13 @@ use Rattle.cert_spec.proofs.Stages.{stage_after}
 use Rattle.cert_scan.specs.Scans as scan
 use Rattle.cert_scan.specs.Scans.{new_shape, new_scan}
 use Rattle.cert_scan.specs.Repeats.{DualSoFar, no_dual}
-use Rattle.cert_scan.proofs.Walks.{Walk, new_walk, scanned, given_all}
+use Rattle.cert_scan.proofs.Goes.{Walk, new_walk, scanned, given_all, given_all-append, state}
 use Rattle.cert_scan.proofs.Repeated.{noted_all, shape_all, repeats_in, repeats_in-append, line_repeats}
 use Rattle.cert_scan.proofs.Tight.{wanted_at, Agrees, agrees_next, untight, wanted_repeats, wanted_next}
 use Rattle.cert_scan.proofs.Sifted.{shape_told, quiet_front, given_same}
 use Rattle.cert_scan.specs.Parts.{parts_of}
 use Rattle.cert_scan.specs.Pieces.{pieces_of, bytes_of, told_by, whole_within, AreOnTime}
 use Rattle.cert_scan.specs.Scanned.{HasScanned}
-use Rattle.cert_scan.proofs.Goes.{given_all-append, state}
 use Rattle.cert_scan.proofs.StagesAt.{stage_at, loose, NamesNodes}
 use Rattle.cert_scan.proofs.Passing.{PassAll, pass_all-append, pass_all_goes, pieces_give, line_pieces_tell, lines_text, lines_tell}
 use Rattle.cert_scan.proofs.Accepts.{accepts}

@@ -1,22 +1,51 @@
--- Pieces of a text that lead a walk on, each giving what it tells with its last byte.
-use Rattle.std.proofs.Common.{◌≡◌, ℕ, ◌+◌, ◌-◌, ◌<◌, ◌≤◌, List, [], ◌∷◌, ◌++◌, length, false, take, drop, map, flat_map, codes, decimal, nat_eq, nat_le, Option, Some, None, refl, sym, ap, ◌∙◌, subst, append_assoc, append-nil, arith, suc}
-use Rattle.std.specs.Prelude.{option_to_list}
+-- The text of a line: a keyword and numbers, and the word and the hubs of a mark behind them. Pieces of a text that lead a walk on, each
+-- giving what it tells with its last byte.
+use Rattle.std.proofs.Common.{◌≡◌, ℕ, List, [], ◌∷◌, ◌++◌, map, codes, decimal, refl, sym, ap, ◌∙◌, append_assoc, append-nil, ◌+◌, ◌-◌, ◌<◌, ◌≤◌, length, false, take, drop, flat_map, nat_eq, nat_le, Option, None, subst, arith, suc}
 use Rattle.std.specs.List.{join_with_byte}
+use Rattle.cert_spec.specs.Lines.{Item as Line, says_marked, keyword, numbers, node_numbers, words_behind, line_text, says_hubs, says_cut, says_dual, says_proof, says_tree, value_numbers, way_numbers, weight_numbers}
+use Rattle.cert_scan.specs.declared.stages.MarkAt.{MarkAt}
+use Rattle.std.specs.Prelude.{option_to_list}
 use Rattle.std.proofs.lemmas.Bool.{cond_both, leb-true, leb-false}
 use Rattle.std.proofs.lemmas.List.{length-append, take_all, take-append-le, take-append-drop}
 use Rattle.std.proofs.lemmas.List.Concat.{flat_map-append}
-use Rattle.hub_spec.specs.Trees.{branch_on, leaf_of, no_hub, no_route, no_count}
+use Rattle.hub_spec.specs.Trees.{leaf_of}
 use Rattle.hub_spec.proofs.SumLemmas.{by_test}
-use Rattle.cert_spec.specs.Lines.{Item as Line, says_version, says_size, says_cost, says_bound, says_hubs, says_route, says_cuts, says_cut, says_marked, says_dual, says_proof, says_nodes, says_tree, says_end, keyword, numbers, node_numbers, value_numbers, way_numbers, weight_numbers, words_behind, line_text}
 use Rattle.core_spec.specs.CoreCuts.{Way}
 use Rattle.cert_spec.specs.Text.{certificate_items, certificate_text, line_bytes}
-use Rattle.cert_scan.proofs.Walks.{Walk, scanned, given_all}
+use Rattle.cert_scan.proofs.Goes.{Walk, scanned, given_all, Goes, goes_append, given_all-append, nil_front}
 use Rattle.cert_scan.specs.Parts.{none_left, parts_of, hub_parts, mark_parts, value_parts, way_parts, weight_parts}
 use Rattle.cert_scan.specs.Pieces.{Piece, told_hubs, told_mark, told_values, told_ways, told_weights, told_numbers, told_keyword, word_piece, number_pieces, mark_pieces, pieces_of, bytes_of, told_by, PiecesAreText, whole_within}
-use Rattle.cert_scan.proofs.LineTexts.{plain_text}
-use Rattle.cert_scan.proofs.Goes.{Goes, goes_append, given_all-append, nil_front}
 use Rattle.cert_scan.specs.declared.items.Item.{Item}
 use Rattle.cert_scan.specs.declared.items.Item.TheVariants.{Hub, Cut, CoreHub, DualPair, Dual, Proof, ProofPair, Leaf, LeafPair}
+
+-- of a line with no more than a keyword and numbers
+pub plain_text : (line : Line) (word ns : List ℕ) → keyword line ≡ word → numbers line ≡ ns → words_behind line ≡ []
+    → line_text line ≡ join_with_byte 32 (word ∷ map decimal ns)
+unfolding line_text
+plain_text line word ns k e none =
+    (λ i. join_with_byte 32 (k i ∷ (map decimal (e i) ++ none i))) ∙ ap (λ l. join_with_byte 32 (word ∷ l)) (append-nil (map decimal ns))
+
+-- what stands before the word of a mark, and what the hubs of the mark stand behind
+abbrev pub mark_front : MarkAt → List ℕ
+mark_front at = codes "cut" ++ 32 ∷ (decimal at.number ++ 32 ∷ (decimal at.part ++ 32 ∷ []))
+
+abbrev pub mark_word : MarkAt → List ℕ
+mark_word at = mark_front at ++ codes "core"
+
+-- what stands in front of the first word
+join_front : (front word : List ℕ) (words : List (List ℕ)) → front ++ join_with_byte 32 (word ∷ words) ≡ join_with_byte 32 ((front ++ word) ∷ words)
+join_front front word [] = refl
+join_front front word (w ∷ words) = sym (append_assoc front word (32 ∷ join_with_byte 32 (w ∷ words)))
+
+-- of a marked cut
+pub mark_text : (at : MarkAt) (hubs : List ℕ)
+    → line_text (says_marked at.number at.part hubs) ≡ join_with_byte 32 (mark_word at ∷ map decimal (node_numbers hubs))
+unfolding line_text
+mark_text at hubs =
+    let rest = join_with_byte 32 (codes "core" ∷ map decimal (node_numbers hubs)) in
+    ap (λ l. codes "cut" ++ 32 ∷ l) (ap (λ l. decimal at.number ++ 32 ∷ l) (sym (append_assoc (decimal at.part) (32 ∷ []) rest))
+    ∙ sym (append_assoc (decimal at.number) (32 ∷ (decimal at.part ++ 32 ∷ [])) rest))
+    ∙ join_front (mark_front at) (codes "core") (map decimal (node_numbers hubs))
 
 -- the bytes of a piece lead from a to b, and what it tells is given with the last of them
 pub record Passes (a : Walk) (p : Piece) (b : Walk) : Type 0 where
@@ -102,27 +131,14 @@ weights_told (e ∷ rest) = ap (λ l. e.0 ∷ e.1 ∷ l) (weights_told rest)
 
 numbers_told : (line : Line) → numbers_of (told_numbers line) ≡ numbers line
 unfolding numbers_of
-numbers_told (says_version v) = refl
-numbers_told (says_size n q) = refl
-numbers_told (says_cost c) = refl
-numbers_told (says_bound b) = refl
 numbers_told (says_hubs hubs) = hubs_told hubs
-numbers_told (says_route commodity route) = refl
-numbers_told (says_cuts all) = refl
 numbers_told (says_cut number None) = refl
-numbers_told (says_cut number (Some part)) = refl
-numbers_told (says_marked number part hubs) = refl
 numbers_told (says_dual commodity run dual) =
     by_test (nat_eq run 1) (λ e. rw e (ap (λ l. (commodity.0 + 1) ∷ (commodity.1 + 1) ∷ dual.a ∷ l) (values_told dual.u)))
     (λ e. rw e (ap (λ l. (commodity.0 + 1) ∷ (commodity.1 + 1) ∷ run ∷ dual.a ∷ l) (values_told dual.u)))
 numbers_told (says_proof proof) = ap (λ l. proof.turns ∷ proof.scale ∷ l) (ways_told proof.ways)
-numbers_told (says_nodes all) = refl
-numbers_told (says_tree (branch_on k)) = refl
 numbers_told (says_tree (leaf_of denom weights)) = ap (λ l. denom ∷ l) (weights_told weights)
-numbers_told (says_tree no_hub) = refl
-numbers_told (says_tree (no_route commodity)) = refl
-numbers_told (says_tree no_count) = refl
-numbers_told says_end = refl
+numbers_told line = refl
 
 words_text : (word : List ℕ) (ts : List (ℕ × Option Item)) (tells : Option Item)
     → bytes_of (word_piece word ts tells ∷ number_pieces ts) ≡ join_with_byte 32 (word ∷ map decimal (numbers_of ts)) ++ 10 ∷ []
@@ -177,27 +193,15 @@ weights_tell [] = refl
 weights_tell (e ∷ rest) = ap (λ l. LeafPair e.0 e.1 (none_left rest) ∷ l) (weights_tell rest)
 
 pub line_pieces_tell : (line : Line) → told_by (pieces_of line) ≡ parts_of line
-line_pieces_tell (says_version v) = refl
-line_pieces_tell (says_size n q) = refl
-line_pieces_tell (says_cost c) = refl
-line_pieces_tell (says_bound b) = refl
 line_pieces_tell (says_hubs hubs) = hubs_tell hubs
-line_pieces_tell (says_route commodity route) = refl
-line_pieces_tell (says_cuts all) = refl
 line_pieces_tell (says_cut number None) = refl
-line_pieces_tell (says_cut number (Some part)) = refl
 line_pieces_tell (says_marked number part hubs) = ap (λ l. Cut number part false ∷ l) (mark_tell hubs)
 line_pieces_tell (says_dual commodity run dual) =
     let told : List Item → List Item = λ l. Dual commodity.0 commodity.1 run dual.a (none_left dual.u) ∷ l in
     by_test (nat_eq run 1) (λ e. rw e (ap told (values_tell dual.u))) (λ e. rw e (ap told (values_tell dual.u)))
 line_pieces_tell (says_proof proof) = ap (λ l. Proof proof.turns proof.scale (none_left proof.ways) ∷ l) (ways_tell proof.ways)
-line_pieces_tell (says_nodes all) = refl
-line_pieces_tell (says_tree (branch_on k)) = refl
 line_pieces_tell (says_tree (leaf_of denom weights)) = ap (λ l. Leaf denom (none_left weights) ∷ l) (weights_tell weights)
-line_pieces_tell (says_tree no_hub) = refl
-line_pieces_tell (says_tree (no_route commodity)) = refl
-line_pieces_tell (says_tree no_count) = refl
-line_pieces_tell says_end = refl
+line_pieces_tell line = refl
 
 pub lines_text : (lines : List Line) → bytes_of (flat_map pieces_of lines) ≡ flat_map line_bytes lines
 lines_text [] = refl

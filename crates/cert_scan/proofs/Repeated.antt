@@ -5,18 +5,18 @@ use Rattle.std.proofs.lemmas.Bool.{cond-true, lt-ltb}
 use Rattle.std.proofs.lemmas.List.{length-append}
 use Rattle.hub_spec.specs.Limits.{most_nodes}
 use Rattle.hub_spec.specs.Cuts.{Prices}
-use Rattle.hub_spec.specs.Trees.{branch_on, leaf_of, no_hub, no_route, no_count}
-use Rattle.cert_spec.specs.Lines.{Item as Line, says_version, says_size, says_cost, says_bound, says_hubs, says_route, says_cuts, says_cut, says_marked, says_dual, says_proof, says_nodes, says_tree, says_end, part_of}
+use Rattle.hub_spec.specs.Trees.{leaf_of}
+use Rattle.cert_spec.specs.Lines.{Item as Line, says_hubs, says_cut, says_marked, says_dual, says_proof, says_tree, part_of}
 use Rattle.core_spec.specs.CoreCuts.{Way, CoreProof}
 use Rattle.cert_spec.specs.Text.{same_values, same_prices}
 use Rattle.cert_scan.specs.Scans.{shape_by}
-use Rattle.cert_scan.specs.Versions.{version_number, version_of}
+use Rattle.cert_scan.specs.Versions.{version_number}
 use Rattle.cert_scan.specs.Parts.{none_left, parts_of, hub_parts, mark_parts, value_parts, way_parts, weight_parts}
 use Rattle.cert_scan.specs.Repeats.{DualSoFar, with_mark, with_price, with_value, left_behind, noted, is_repeated, ends_dual, ends_repeat, noted_by, repeats_by}
 use Rattle.cert_scan.specs.declared.items.Version.{Version}
 use Rattle.cert_scan.specs.declared.items.Version.TheVariants.{First, Second, Third}
 use Rattle.cert_scan.specs.declared.items.Item.{Item}
-use Rattle.cert_scan.specs.declared.items.Item.TheVariants.{Version as version_item, Size, Cost, Bound, Hub, Route, Cuts, Cut, CoreHub, Dual, DualPair, Proof, ProofPair, Nodes, Branch, Leaf, LeafPair, Empty, Block, Count, End}
+use Rattle.cert_scan.specs.declared.items.Item.TheVariants.{Hub, Cut, CoreHub, Dual, DualPair, Proof, ProofPair, Leaf, LeafPair}
 use Rattle.cert_scan.specs.declared.stages.Shape.{Shape}
 
 -- what is held after these items
@@ -67,8 +67,7 @@ or_none false = refl
 
 pub noted_none : (v : Version) (so_far : DualSoFar) → so_far ≡ noted_by v so_far None
 noted_none First so_far = refl
-noted_none Second so_far = refl
-noted_none Third so_far = refl
+noted_none v so_far = refl
 
 pub noted_one : (sh : Shape) (so_far : DualSoFar) (item : Option Item) → noted_all sh so_far (option_to_list item) ≡ noted_by sh.version so_far item
 noted_one sh so_far (Some x) = refl
@@ -76,8 +75,7 @@ noted_one sh so_far None = noted_none sh.version so_far
 
 pub none_repeats : (v : Version) (so_far : DualSoFar) → repeats_by v so_far None ≡ false
 none_repeats First so_far = refl
-none_repeats Second so_far = refl
-none_repeats Third so_far = refl
+none_repeats v so_far = refl
 
 pub repeats_one : (sh : Shape) (so_far : DualSoFar) (item : Option Item) → repeats_in sh so_far (option_to_list item) ≡ repeats_by sh.version so_far item
 repeats_one sh so_far (Some x) = or_none (repeats_by sh.version so_far (Some x))
@@ -90,12 +88,12 @@ shape_one sh None = refl
 -- ---- lines that are no duals
 
 -- nothing is held of the item
-record IsOther (item : Item) : Type 0 where
-  ends : ends_dual item ≡ false
-  same : (so_far : DualSoFar) → noted so_far item ≡ so_far
+pub record IsOther (item : Item) : Type 0 where
+  pub ends : ends_dual item ≡ false
+  pub same : (so_far : DualSoFar) → noted so_far item ≡ so_far
 
 -- of any version
-other_item : (v : Version) (so_far : DualSoFar) (item : Item) → IsOther item → (repeats_by v so_far (Some item) ≡ false) × (noted_by v so_far (Some item) ≡ so_far)
+pub other_item : (v : Version) (so_far : DualSoFar) (item : Item) → IsOther item → (repeats_by v so_far (Some item) ≡ false) × (noted_by v so_far (Some item) ≡ so_far)
 other_item First so_far item h = (refl, refl)
 other_item Second so_far item h = (ap (λ b. b && is_repeated (noted so_far item).left) h.ends, h.same so_far)
 other_item Third so_far item h = (ap (λ b. b && is_repeated (noted so_far item).left) h.ends, h.same so_far)
@@ -248,8 +246,7 @@ dual_line_repeats Third n so_far c run dual = later_repeats (record { version = 
 
 cut_repeats : (v : Version) (so_far : DualSoFar) (x part : ℕ) (last : Bool) → repeats_by v so_far (Some (Cut x part last)) ≡ false
 cut_repeats First so_far x part last = refl
-cut_repeats Second so_far x part last = refl
-cut_repeats Third so_far x part last = refl
+cut_repeats v so_far x part last = refl
 
 cut_quiet : (sh : Shape) (so_far : DualSoFar) (x part : ℕ) (last : Bool) (hubs : List ℕ) → repeats_in sh so_far (Cut x part last ∷ mark_parts hubs) ≡ false
 cut_quiet sh so_far x part last hubs =
@@ -270,31 +267,21 @@ mark_held Second n so_far x part hubs third = absurd (omega (arith, third))
 mark_held Third n so_far x part hubs third = ap (λ (s : DualSoFar). s.marked) (leave_mark (record { version = Third; n = n }) (with_mark so_far true) hubs).same
 
 -- an item of another line
-leaves : (sh : Shape) (so_far : DualSoFar) (item : Item) → ends_dual item ≡ false → ((so_far : DualSoFar) → noted so_far item ≡ so_far) → Leave sh so_far (item ∷ [])
-leaves sh so_far item e f = leave_one sh so_far item (record { ends = e; same = f })
+leaves : (sh : Shape) (so_far : DualSoFar) (item : Item) → ends_dual item ≡ false → ((so_far : DualSoFar) → noted so_far item ≡ so_far)
+    → repeats_in sh so_far (item ∷ []) ≡ false
+leaves sh so_far item e f = (leave_one sh so_far item (record { ends = e; same = f })).quiet
 
 pub line_repeats : (sh : Shape) (so_far : DualSoFar) (line : Line) → repeats_in sh so_far (parts_of line) ≡ dual_repeats sh.version so_far line
-line_repeats sh so_far (says_version v) = (leaves sh so_far (version_item (version_of v)) refl (λ s. refl)).quiet
-line_repeats sh so_far (says_size n q) = (leaves sh so_far (Size n q) refl (λ s. refl)).quiet
-line_repeats sh so_far (says_cost c) = (leaves sh so_far (Cost c) refl (λ s. refl)).quiet
-line_repeats sh so_far (says_bound b) = (leaves sh so_far (Bound b) refl (λ s. refl)).quiet
 line_repeats sh so_far (says_hubs hubs) = (leave_hubs sh so_far hubs).quiet
-line_repeats sh so_far (says_route commodity route) = (leaves sh so_far (Route commodity.0 commodity.1 route.0 route.1) refl (λ s. refl)).quiet
-line_repeats sh so_far (says_cuts all) = (leaves sh so_far (Cuts all) refl (λ s. refl)).quiet
 line_repeats sh so_far (says_cut number part) = cut_quiet sh so_far number (part_of part) true []
 line_repeats sh so_far (says_marked number part hubs) = cut_quiet sh so_far number part false hubs
 line_repeats sh so_far (says_dual c run dual) = dual_line_repeats sh.version sh.n so_far c run dual
 line_repeats sh so_far (says_proof proof) =
     (leave_more sh so_far (Proof proof.turns proof.scale (none_left proof.ways)) (way_parts proof.ways) (record { ends = refl; same = λ s. refl })
     (leave_ways sh so_far proof.ways)).quiet
-line_repeats sh so_far (says_nodes all) = (leaves sh so_far (Nodes all) refl (λ s. refl)).quiet
-line_repeats sh so_far (says_tree (branch_on k)) = (leaves sh so_far (Branch k) refl (λ s. refl)).quiet
 line_repeats sh so_far (says_tree (leaf_of denom weights)) =
     (leave_more sh so_far (Leaf denom (none_left weights)) (weight_parts weights) (record { ends = refl; same = λ s. refl }) (leave_weights sh so_far weights)).quiet
-line_repeats sh so_far (says_tree no_hub) = (leaves sh so_far Empty refl (λ s. refl)).quiet
-line_repeats sh so_far (says_tree (no_route commodity)) = (leaves sh so_far (Block commodity.0 commodity.1) refl (λ s. refl)).quiet
-line_repeats sh so_far (says_tree no_count) = (leaves sh so_far Count refl (λ s. refl)).quiet
-line_repeats sh so_far says_end = (leaves sh so_far End refl (λ s. refl)).quiet
+line_repeats sh so_far line = leaves sh so_far _ refl (λ s. refl)
 
 -- behind a dual of a later version it is held
 dual_is_held : (sh : Shape) (so_far : DualSoFar) (c : ℕ × ℕ) (run : ℕ) (dual : Prices) → Counts sh.version → length dual.u ≤ most_nodes

@@ -6,7 +6,7 @@ use Rattle.cert_scan.specs.Moves.{refusal, moved_by}
 use Rattle.cert_scan.specs.Scans as scan
 use Rattle.cert_scan.specs.Scans.{shape_by}
 use Rattle.cert_scan.specs.Repeats.{DualSoFar, noted_by, repeats_by}
-use Rattle.cert_scan.proofs.Walks.{Walk, walk_of, given_by, stepped, scanned, given_all}
+use Rattle.cert_scan.proofs.Goes.{Walk, walk_of, given_by, stepped, scanned, given_all}
 use Rattle.cert_scan.proofs.Repeated.{noted_all, shape_all, shape_all-append, repeats_in, repeats_in-append, noted_one, repeats_one, shape_one}
 use Rattle.cert_scan.specs.declared.items.Item.{Item}
 use Rattle.cert_scan.specs.declared.bytes.Move.{Move}

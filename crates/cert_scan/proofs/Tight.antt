@@ -29,7 +29,7 @@ use Rattle.cert_scan.specs.declared.items.Item.{Item}
 use Rattle.cert_scan.specs.declared.stages.DualAt.{DualAt}
 use Rattle.cert_scan.specs.declared.stages.Shape.{Shape}
 use Rattle.cert_scan.specs.declared.stages.Stage.{Stage}
-use Rattle.cert_scan.specs.declared.stages.Stage.TheVariants.{Version, Size, Cost, Bound, Hubs, Route, Cuts, Cut, Dual, ProvedDual, Proof, Nodes, Tree, End, Nothing}
+use Rattle.cert_scan.specs.declared.stages.Stage.TheVariants.{Version, Size, Cost, Bound, Hubs, Route, Cuts, Cut, Dual, ProvedDual, Proof, Nodes, Tree, End}
 
 -- after the dual that is held
 abbrev pub tight : DualSoFar → grammar.Stage → grammar.Stage
@@ -52,21 +52,8 @@ abbrev Kind : Stage → Type 0
 Kind stage = ((sh : Shape) (so_far : DualSoFar) → wanted_at sh so_far stage ≡ stage_at sh stage) ⊎ ((d : DualAt) × (Dual d ≡ stage))
 
 kind_of : (stage : Stage) → Kind stage
-kind_of Version = inl (λ sh so_far. refl)
-kind_of Size = inl (λ sh so_far. refl)
-kind_of Cost = inl (λ sh so_far. refl)
-kind_of Bound = inl (λ sh so_far. refl)
-kind_of Hubs = inl (λ sh so_far. refl)
-kind_of (Route c) = inl (λ sh so_far. refl)
-kind_of Cuts = inl (λ sh so_far. refl)
-kind_of (Cut all before) = inl (λ sh so_far. refl)
 kind_of (Dual d) = inr (d, refl)
-kind_of (ProvedDual d) = inl (λ sh so_far. refl)
-kind_of (Proof d) = inl (λ sh so_far. refl)
-kind_of Nodes = inl (λ sh so_far. refl)
-kind_of (Tree at) = inl (λ sh so_far. refl)
-kind_of End = inl (λ sh so_far. refl)
-kind_of Nothing = inl (λ sh so_far. refl)
+kind_of stage = inl (λ sh so_far. refl)
 
 -- ---- what may stand at it
 

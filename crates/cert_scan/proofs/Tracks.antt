@@ -1,6 +1,6 @@
 -- How far a text has been scanned.
 use Rattle.std.proofs.Common.{◌≡◌, ◌≢◌, true, ◌&&◌, ◌||◌, Some, ℕ, ◌+◌, ◌-◌, ◌^◌, ◌<◌, ◌≤◌, false, List, [], ◌∷◌, ◌++◌, length, flat_map, All, Option, None, nat_lt, nat_eq, ◌⊎◌, inl, inr, refl, sym, ap, ◌∙◌, subst, append_assoc, append-nil, arith}
-use Rattle.std.specs.Prelude.{option_to_list}
+use Rattle.std.specs.Prelude.{IfSome, option_to_list}
 use Rattle.std.specs.List.{AllByRecursion}
 use Rattle.std.proofs.lemmas.Bool.{cond-true, cond_both, lt-ltb, false≢true}
 use Rattle.std.proofs.lemmas.List.{length-append}
@@ -11,36 +11,34 @@ use Rattle.cert_spec.specs.Text.{line_bytes}
 use Rattle.cert_spec.specs.Grammar as grammar
 use Rattle.cert_spec.specs.Grammar.{want_version, Wants, after, Leads, IsLine}
 use Rattle.cert_spec.specs.Reading.{IsStage}
-use Rattle.cert_spec.proofs.Leads.{Leads-append, recursion_split}
+use Rattle.cert_spec.proofs.Leads.{Leads-append}
 use Rattle.cert_spec.proofs.Wanted.{one_item, line_has_no_feed}
 use Rattle.cert_spec.proofs.Stages.{stage_after}
 use Rattle.cert_scan.specs.Moves.{moved_by, refusal}
 use Rattle.cert_scan.specs.Scans as scan
 use Rattle.cert_scan.specs.Scans.{new_shape, shape_by, line_by, new_scan}
 use Rattle.cert_scan.specs.Repeats.{DualSoFar, no_dual, ends_dual, is_repeated, noted, noted_by, repeats_by}
-use Rattle.cert_scan.proofs.Walks.{Walk, stepped, scanned}
+use Rattle.cert_scan.proofs.Goes.{Walk, stepped, scanned, given_all, scanned-append, given_all-append, state}
 use Rattle.cert_scan.proofs.Repeated.{noted_all, noted_all-append, shape_all, shape_all-append, repeats_in, repeats_in-append, line_repeats, dual_repeats, noted_one, none_repeats, repeats_one, shape_one}
 use Rattle.cert_scan.proofs.Tight.{wanted_at, Agrees, agrees_next, untight, tight_wants, wanted_repeats, wanted_stage, wanted_begun, wanted_next}
-use Rattle.cert_scan.specs.Parts.{parts_of, open_hubs, open_mark, open_values, open_ways, open_weights}
+use Rattle.cert_scan.specs.Parts.{parts_of}
 use Rattle.cert_scan.specs.Pieces.{pieces_of}
 use Rattle.cert_scan.specs.Given.{IsBegun, IsGiven}
 use Rattle.cert_scan.specs.Scanned.{HasScanned}
-use Rattle.cert_scan.proofs.Goes.{scanned-append, state}
 use Rattle.cert_scan.proofs.StagesAt.{stage_at, NamesNodes}
 use Rattle.cert_scan.proofs.Passing.{pass_all_goes, line_pieces_text}
 use Rattle.cert_scan.proofs.Accepts.{accepts}
-use Rattle.cert_scan.proofs.Here.{begun_none, begun_nothing, described_begun, word_begun, Here, Whole, Goes_on, AfterAt, After}
+use Rattle.cert_scan.proofs.Here.{begun_none, Here, here_begun, Whole, Goes_on, AfterAt, After}
 use Rattle.cert_scan.proofs.OneByte.{moves}
 use Rattle.cert_scan.specs.declared.items.Item.{Item}
 use Rattle.cert_scan.specs.declared.bytes.Move.{Move}
 use Rattle.cert_scan.specs.declared.bytes.Position.{Position}
-use Rattle.cert_scan.specs.declared.bytes.Position.TheVariants.{Start, Number, Keyword, Spoiled, Failed}
+use Rattle.cert_scan.specs.declared.bytes.Position.TheVariants.{Start, Failed}
 use Rattle.cert_scan.specs.declared.items.Version.{Version as TextVersion}
-use Rattle.core_spec.specs.CoreCuts.{Way}
 use Rattle.cert_scan.specs.declared.items.Version.TheVariants.{First, Second, Third}
 use Rattle.cert_scan.specs.declared.stages.Shape.{Shape}
 use Rattle.cert_scan.specs.declared.stages.Stage.{Stage}
-use Rattle.cert_scan.specs.declared.stages.Stage.TheVariants.{Version, Size, Cost, Bound, Hubs, Route, Cuts, Cut, Dual, ProvedDual, Proof, Nodes, Tree, End, Nothing}
+use Rattle.cert_scan.specs.declared.stages.Stage.TheVariants.{Version, Nothing}
 use Rattle.cert_scan.specs.declared.scanner.Scan.{Scan}
 
 -- bytes without a line feed
@@ -59,6 +57,7 @@ pub record InLine (start : Shape) (held : DualSoFar) (stage : Stage) (sh : Shape
   pub busy : Busy stage position
   pub plain : ArePlain sofar
   pub came : (line : ℕ) → scanned (state start line (Start stage)) sofar ≡ state start line position
+  pub gave : given_all (state start 0 (Start stage)) sofar ≡ more
   pub holds : so_far ≡ noted_all start held more
   pub quiet : repeats_in start held more ≡ false
   pub kept : shape_all start more ≡ start
@@ -102,14 +101,6 @@ pub stage_led : (first last : grammar.Stage) (items : List Line) → IsStage fir
 stage_led first last [] s h = subst IsStage h s
 stage_led first last (item ∷ items) s h = stage_led (after first item) last items (stage_after first item s h.0) h.1
 
-here_begun : (sh : Shape) (stage : Stage) (position : Position) (bytes : List ℕ) (given : List Item) → NamesNodes sh stage → Here sh stage position bytes given → IsBegun (stage_at sh stage) given
-here_begun sh stage (Start at) bytes given names h = begun_nothing sh stage given h.2
-here_begun sh stage (Keyword head matched) bytes given names h = word_begun sh stage head given h.stage_is h.known h.given_is
-here_begun sh stage (Number place value) bytes given names h =
-    subst (λ x. IsBegun (stage_at sh x) given) h.stage_is (described_begun sh place h.ns given (subst (NamesNodes sh) (sym h.stage_is) names) h.described)
-here_begun sh stage Spoiled bytes given names h = h
-here_begun sh stage Failed bytes given names h = h
-
 line_begins : (sh : Shape) (so_far : DualSoFar) (stage : Stage) → InLine sh so_far stage sh so_far (Start stage) [] []
 line_begins sh so_far stage = record {
   same = refl;
@@ -117,6 +108,7 @@ line_begins sh so_far stage = record {
   busy = tt;
   plain = All-nil (λ b. nat_eq b 10 ≡ false);
   came = λ line. refl;
+  gave = refl;
   holds = refl;
   quiet = refl;
   kept = refl;
@@ -242,6 +234,13 @@ came_more : (nodes : Shape) (stage : Stage) (position : Position) (sofar : List 
 came_more nodes stage position sofar byte line next came e =
     scanned-append (state nodes line (Start stage)) sofar (byte ∷ []) ∙ ap (λ s. scanned s (byte ∷ [])) came ∙ e
 
+gave_more : (nodes : Shape) (stage : Stage) (position : Position) (sofar : List ℕ) (more : List Item) (byte : ℕ) (item : Option Item)
+    → scanned (state nodes 0 (Start stage)) sofar ≡ state nodes 0 position → given_all (state nodes 0 (Start stage)) sofar ≡ more
+    → (moved_by nodes position byte).item ≡ item → given_all (state nodes 0 (Start stage)) (sofar ++ byte ∷ []) ≡ more ++ option_to_list item
+gave_more nodes stage position sofar more byte item came gave gives =
+    given_all-append (state nodes 0 (Start stage)) sofar (byte ∷ []) ∙ (λ i. gave i ++ given_all (came i) (byte ∷ []))
+    ∙ ap (λ l. more ++ l) (append-nil (option_to_list (moved_by nodes position byte).item) ∙ ap option_to_list gives)
+
 plain_more : (sofar : List ℕ) (byte : ℕ) → ArePlain sofar → nat_eq byte 10 ≡ false → ArePlain (sofar ++ byte ∷ [])
 plain_more sofar byte h e = All-append (λ b. nat_eq b 10 ≡ false) sofar (byte ∷ []) h (All-cons (λ b. nat_eq b 10 ≡ false) byte [] e (All-nil (λ b. nat_eq b 10 ≡ false)))
 
@@ -276,10 +275,7 @@ has_failed start held stage sh so_far position sofar more byte next names s now 
 
 busy_next : (stage : Stage) (position : Position) → (stage ≡ Nothing → ⊥) → Busy stage position
 busy_next stage (Start at) h = tt
-busy_next stage (Keyword head matched) h = h
-busy_next stage (Number place value) h = h
-busy_next stage Spoiled h = h
-busy_next stage Failed h = h
+busy_next stage position h = h
 
 step_is : (start : Shape) (position : Position) (byte : ℕ) (item : Option Item) (next : Position) → moved_by start position byte ≡ record { position = next; item = item }
     → ((l : ℕ) → line_by l next ≡ l) → shape_by start item ≡ start → (l : ℕ) → stepped (state start l position) byte ≡ state start l next
@@ -292,20 +288,21 @@ more_begun : {bytes : List ℕ} {given : List Item} {sh : Shape} {line : ℕ} {p
     → IsBegun (wanted_at h.shape h.held h.stage) (h.more ++ option_to_list item)
 more_begun byte item next h a =
     wanted_begun h.shape h.held h.stage (h.more ++ option_to_list item)
-    (here_begun h.shape h.stage next (h.sofar ++ byte ∷ []) (h.more ++ option_to_list item) h.names a.here)
+    (here_begun h.shape h.stage next (h.sofar ++ byte ∷ []) (h.more ++ option_to_list item) a.here)
 
 -- the line goes on
 goes_on : {bytes : List ℕ} {given : List Item} {sh : Shape} {line : ℕ} {position : Position} {so_far : DualSoFar} (byte : ℕ) (item : Option Item) (next : Position)
     (h : Tracks bytes given sh line position so_far) → InLine h.shape h.held h.stage sh so_far position h.sofar h.more
-    → ((l : ℕ) → stepped (state h.shape l position) byte ≡ state h.shape l next) → repeats_by sh.version so_far item ≡ false
-    → Goes_on h.shape h.stage byte next (h.sofar ++ byte ∷ []) h.more item
+    → ((l : ℕ) → stepped (state h.shape l position) byte ≡ state h.shape l next) → (moved_by h.shape position byte).item ≡ item
+    → repeats_by sh.version so_far item ≡ false → Goes_on h.shape h.stage byte next (h.sofar ++ byte ∷ []) h.more item
     → InLine h.shape h.held h.stage (shape_by sh item) (noted_by sh.version so_far item) next (h.sofar ++ byte ∷ []) (h.more ++ option_to_list item)
-goes_on {position = position} byte item next h now step quiet g = record {
+goes_on {position = position} byte item next h now step gives quiet g = record {
   same = ap (λ x. shape_by x item) now.same ∙ g.same;
   here = g.here;
   busy = busy_next h.stage next g.some;
   plain = plain_more h.sofar byte now.plain g.no_feed;
   came = λ l. came_more h.shape h.stage position h.sofar byte l (state h.shape l next) (now.came l) (step l);
+  gave = gave_more h.shape h.stage position h.sofar h.more byte item (now.came 0) now.gave gives;
   holds = item_noted item now;
   quiet = item_repeats item now ∙ quiet;
   kept = item_shape item now ∙ g.same;
@@ -323,15 +320,9 @@ moved_at {sh = sh} {line = line} {position = position} {so_far = so_far} byte it
     (subst (λ x. IsBegun (wanted_at h.shape h.held h.stage) (h.more ++ option_to_list x)) (sym a.none)
     (subst (IsBegun (wanted_at h.shape h.held h.stage)) (sym (append-nil h.more)) (wanted_begun h.shape h.held h.stage h.more a.begun)))
     (has_failed h.shape h.held h.stage sh so_far position h.sofar h.more byte (record { position = Failed; item = item }) h.names stage now e refl a.ends)
-moved_at {sh = sh} {line = line} {position = position} {so_far = so_far} byte item (Keyword head matched) h now stage e quiet a =
-    stays byte item (shape_by sh item) line (Keyword head matched) (noted_by sh.version so_far item) h h.line_is (more_begun byte item (Keyword head matched) h a)
-    (goes_on byte item (Keyword head matched) h now (step_is h.shape position byte item (Keyword head matched) e (λ l. refl) a.same) quiet a)
-moved_at {sh = sh} {line = line} {position = position} {so_far = so_far} byte item (Number place value) h now stage e quiet a =
-    stays byte item (shape_by sh item) line (Number place value) (noted_by sh.version so_far item) h h.line_is (more_begun byte item (Number place value) h a)
-    (goes_on byte item (Number place value) h now (step_is h.shape position byte item (Number place value) e (λ l. refl) a.same) quiet a)
-moved_at {sh = sh} {line = line} {position = position} {so_far = so_far} byte item Spoiled h now stage e quiet a =
-    stays byte item (shape_by sh item) line Spoiled (noted_by sh.version so_far item) h h.line_is (more_begun byte item Spoiled h a)
-    (goes_on byte item Spoiled h now (step_is h.shape position byte item Spoiled e (λ l. refl) a.same) quiet a)
+moved_at {sh = sh} {line = line} {position = position} {so_far = so_far} byte item next h now stage e quiet a =
+    stays byte item (shape_by sh item) line next (noted_by sh.version so_far item) h h.line_is (more_begun byte item next h a)
+    (goes_on byte item next h now (step_is h.shape position byte item next e (λ l. refl) a.same) (ap (λ m. m.item) e) quiet a)
 
 -- ---- a dual that repeats the one before it
 
@@ -339,51 +330,9 @@ moved_at {sh = sh} {line = line} {position = position} {so_far = so_far} byte it
 abbrev pub IsOpen : Item → Type 0
 IsOpen item = ends_dual item ≡ false
 
-open_hubs_are : (hubs : List ℕ) → AllByRecursion IsOpen (open_hubs hubs)
-open_hubs_are [] = tt
-open_hubs_are (k ∷ rest) = (refl, open_hubs_are rest)
-
-open_values_are : (u : List (ℕ × ℕ)) → AllByRecursion IsOpen (open_values u)
-open_values_are [] = tt
-open_values_are (e ∷ rest) = (refl, open_values_are rest)
-
-open_mark_are : (hubs : List ℕ) → AllByRecursion IsOpen (open_mark hubs)
-open_mark_are [] = tt
-open_mark_are (k ∷ rest) = (refl, open_mark_are rest)
-
-open_ways_are : (ways : List Way) → AllByRecursion IsOpen (open_ways ways)
-open_ways_are [] = tt
-open_ways_are (w ∷ rest) = (refl, open_ways_are rest)
-
-open_weights_are : (w : List (ℕ × ℕ)) → AllByRecursion IsOpen (open_weights w)
-open_weights_are [] = tt
-open_weights_are (e ∷ rest) = (refl, open_weights_are rest)
-
-are_open : (given items : List Item) → given ≡ items → AllByRecursion IsOpen items → AllByRecursion IsOpen given
-are_open given items e h = subst (AllByRecursion IsOpen) (sym e) h
-
--- what is given of a line whose end was not given is open
-begun_open : (sh : Shape) (stage : Stage) (given : List Item) → IsBegun (stage_at sh stage) given → AllByRecursion IsOpen given
-begun_open sh Hubs given h = are_open given (open_hubs h.hubs) h.are (open_hubs_are h.hubs)
-begun_open sh (Dual d) given (inl none) = are_open given [] none tt
-begun_open sh (Dual d) given (inr h) = subst (AllByRecursion IsOpen) (sym h.are) (refl, open_values_are h.dual.u)
-begun_open sh (Tree t) given (inl none) = are_open given [] none tt
-begun_open sh (Tree t) given (inr h) = subst (AllByRecursion IsOpen) (sym h.are) (refl, open_weights_are h.weights)
-begun_open sh Version given h = are_open given [] h tt
-begun_open sh Size given h = are_open given [] h tt
-begun_open sh Cost given h = are_open given [] h tt
-begun_open sh Bound given h = are_open given [] h tt
-begun_open sh (Route c) given h = are_open given [] h tt
-begun_open sh Cuts given h = are_open given [] h tt
-begun_open sh (Cut all before) given (inl none) = are_open given [] none tt
-begun_open sh (Cut all before) given (inr h) = subst (AllByRecursion IsOpen) (sym h.are) (refl, open_mark_are h.hubs)
-begun_open sh (ProvedDual d) given (inl none) = are_open given [] none tt
-begun_open sh (ProvedDual d) given (inr h) = subst (AllByRecursion IsOpen) (sym h.are) (refl, open_values_are h.dual.u)
-begun_open sh (Proof d) given (inl none) = are_open given [] none tt
-begun_open sh (Proof d) given (inr h) = subst (AllByRecursion IsOpen) (sym h.are) (refl, open_ways_are h.proof.ways)
-begun_open sh Nodes given h = are_open given [] h tt
-begun_open sh End given h = are_open given [] h tt
-begun_open sh Nothing given h = are_open given [] h tt
+only_open : (item : Option Item) → IfSome item IsOpen → AllByRecursion IsOpen (option_to_list item)
+only_open None h = tt
+only_open (Some x) h = (h, tt)
 
 pub open_quiet : (v : TextVersion) (so_far : DualSoFar) (item : Option Item) → AllByRecursion IsOpen (option_to_list item) → repeats_by v so_far item ≡ false
 open_quiet First so_far item h = refl
@@ -396,9 +345,7 @@ open_quiet Third so_far (Some x) h = ap (λ b. b && is_repeated (noted so_far x)
 goes_quiet : {bytes : List ℕ} {given : List Item} {sh : Shape} {line : ℕ} {position : Position} {so_far : DualSoFar} (byte : ℕ) (item : Option Item) (next : Position)
     (h : Tracks bytes given sh line position so_far) → Goes_on h.shape h.stage byte next (h.sofar ++ byte ∷ []) h.more item → repeats_by sh.version so_far item ≡ false
 goes_quiet {sh = sh} {so_far = so_far} byte item next h a =
-    open_quiet sh.version so_far item (recursion_split IsOpen h.more (option_to_list item)
-    (begun_open h.shape h.stage (h.more ++ option_to_list item)
-    (here_begun h.shape h.stage next (h.sofar ++ byte ∷ []) (h.more ++ option_to_list item) h.names a.here))).1
+    open_quiet sh.version so_far item (only_open item a.quiet)
 
 -- a whole line that repeats a dual may not stand there
 repeated_line : {bytes : List ℕ} {given : List Item} {sh : Shape} {line : ℕ} {position : Position} {so_far : DualSoFar} (byte : ℕ) (item : Option Item) (s : Stage)
@@ -426,9 +373,7 @@ repeated_at : {bytes : List ℕ} {given : List Item} {sh : Shape} {line : ℕ} {
 repeated_at byte item (Start s) h now stage repeats a = repeated_line byte item s h now stage repeats a
 repeated_at {sh = sh} {so_far = so_far} byte item Failed h now stage repeats a =
     absurd (false≢true (sym (ap (repeats_by sh.version so_far) a.none ∙ none_repeats sh.version so_far) ∙ repeats))
-repeated_at byte item (Keyword head matched) h now stage repeats a = absurd (false≢true (sym (goes_quiet byte item (Keyword head matched) h a) ∙ repeats))
-repeated_at byte item (Number place value) h now stage repeats a = absurd (false≢true (sym (goes_quiet byte item (Number place value) h a) ∙ repeats))
-repeated_at byte item Spoiled h now stage repeats a = absurd (false≢true (sym (goes_quiet byte item Spoiled h a) ∙ repeats))
+repeated_at byte item next h now stage repeats a = absurd (false≢true (sym (goes_quiet byte item next h a) ∙ repeats))
 
 -- ---- any byte
 
@@ -458,7 +403,8 @@ step_at : {bytes : List ℕ} {given : List Item} (sh : Shape) (line : ℕ) (posi
 step_at {bytes = bytes} {given = given} sh line position so_far byte next h no_failure now e =
     let size = wanted_stage h.shape h.held h.stage (stage_led want_version (wanted_at h.shape h.held h.stage) h.lines tt h.lead) in
     let there : moved_by h.shape position byte ≡ next = ap (λ x. moved_by x position byte) (sym now.same) ∙ e in
-    let after = moves h.shape h.stage position byte h.sofar h.more size h.names no_failure (λ is. subst (Busy h.stage) is now.busy) now.here in
+    let after = moves h.shape h.stage position byte h.sofar h.more size h.names no_failure (λ is. subst (Busy h.stage) is now.busy) now.here
+    (record { scan = now.came 0; items = now.gave }) in
     let came = subst (After h.shape h.stage byte (h.sofar ++ byte ∷ []) h.more) there after in
     cond_both (repeats_by sh.version so_far next.item) (refusal true) next (Behind bytes given sh line position so_far byte next.item)
     (λ repeats. stays byte None sh line Failed (noted_by sh.version so_far next.item) h h.line_is
@@ -468,16 +414,13 @@ step_at {bytes = bytes} {given = given} sh line position so_far byte next h no_f
 
 track_step : {bytes : List ℕ} {given : List Item} (sh : Shape) (line : ℕ) (position : Position) (so_far : DualSoFar) (byte : ℕ) → Tracks bytes given sh line position so_far
     → Behind bytes given sh line position so_far byte (moved_by sh position byte).item (scan.sifted (scan_at sh line position so_far) (moved_by sh position byte))
-track_step sh line (Start at) so_far byte h = step_at sh line (Start at) so_far byte (moved_by sh (Start at) byte) h (λ e. cc) h.now refl
-track_step sh line (Keyword head matched) so_far byte h = step_at sh line (Keyword head matched) so_far byte (moved_by sh (Keyword head matched) byte) h (λ e. cc) h.now refl
-track_step sh line (Number place value) so_far byte h = step_at sh line (Number place value) so_far byte (moved_by sh (Number place value) byte) h (λ e. cc) h.now refl
-track_step sh line Spoiled so_far byte h = step_at sh line Spoiled so_far byte (moved_by sh Spoiled byte) h (λ e. cc) h.now refl
 track_step {bytes = bytes} {given = given} sh line Failed so_far byte h =
     cond_both (repeats_by sh.version so_far None) (refusal true) (refusal true) (Behind bytes given sh line Failed so_far byte None)
     (λ repeats. absurd (false≢true (sym (none_repeats sh.version so_far) ∙ repeats)))
     (λ quiet. stays byte None sh line Failed (noted_by sh.version so_far None) h h.line_is
     (subst (IsBegun (wanted_at h.shape h.held h.stage)) (sym (append-nil h.more)) h.begun)
     (line_failed (wanted_at h.shape h.held h.stage) h.stage h.sofar byte h.now))
+track_step sh line position so_far byte h = step_at sh line position so_far byte (moved_by sh position byte) h (λ e. cc) h.now refl
 
 -- ---- all bytes
 

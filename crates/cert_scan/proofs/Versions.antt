@@ -14,8 +14,7 @@ each_is_version Third = inr (inr refl)
 -- a version has its number
 pub version_back : (version : Version) → version_of (version_number version) ≡ version
 version_back First = refl
-version_back Second = refl
-version_back Third = refl
+version_back version = refl
 
 -- and a number its version
 pub number_back : (v : ℕ) → IsVersion v → version_number (version_of v) ≡ v

@@ -1,5 +1,5 @@
 use Rattle.std.proofs.Common.{◌≡◌, ◌+◌, ap, ◌∙◌, get_or, arith}
-use Rattle.cert_scan.proofs.SmallNumbers.{three_digits}
+use Rattle.cert_scan.proofs.SpelledNumbers.{three_digits}
 use Rattle.cert_scan.proofs.digits.small_number_at.Goals as goal
 
 pub number_of-requires-2-clause-spells : goal.number_of-requires-2-clause-spells

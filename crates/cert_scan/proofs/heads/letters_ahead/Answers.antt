@@ -2,7 +2,7 @@ use Rattle.std.proofs.Common.{take, length, get_or, sym, ap, ◌∙◌, ◌≡�
 use Rattle.std.proofs.lemmas.List.{take_more, length-take-le}
 use Rattle.cert_scan.specs.Moves.{keyword_of}
 use Rattle.cert_scan.specs.Runs.{GoesOn}
-use Rattle.cert_scan.proofs.Letters.{letters_more}
+use Rattle.cert_scan.proofs.LineRuns.{letters_more}
 use Rattle.cert_scan.proofs.heads.letters_ahead.Goals as goal
 
 pub loop-i-preserved : goal.loop-i-preserved

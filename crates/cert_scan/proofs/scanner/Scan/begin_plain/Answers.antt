@@ -1,4 +1,4 @@
-use Rattle.cert_scan.proofs.LineStarts.{plain_gives}
+use Rattle.cert_scan.proofs.AtOnce.{plain_gives}
 use Rattle.cert_scan.proofs.scanner.Scan.begin_plain.Goals as goal
 
 pub returns : goal.returns

@@ -1,4 +1,4 @@
-use Rattle.cert_scan.proofs.LineStarts.{proof_gives}
+use Rattle.cert_scan.proofs.AtOnce.{proof_gives}
 use Rattle.cert_scan.proofs.scanner.Scan.begin_proof.Goals as goal
 
 pub returns : goal.returns

@@ -1,4 +1,4 @@
-use Rattle.cert_scan.proofs.LineStarts.{proved_gives}
+use Rattle.cert_scan.proofs.AtOnce.{proved_gives}
 use Rattle.cert_scan.proofs.scanner.Scan.begin_proved.Goals as goal
 
 pub returns : goal.returns

@@ -1,6 +1,6 @@
 use Rattle.std.proofs.Common.{not, ap, ◌∙◌}
 use Rattle.cert_scan.proofs.Stepping.{none_of, some_of}
-use Rattle.cert_scan.proofs.PairRuns.{stands_at, pair_runs, pair_fails}
+use Rattle.cert_scan.proofs.AtOnce.{stands_at, pair_runs, pair_fails}
 use Rattle.cert_scan.proofs.scanner.Scan.end_dual.Goals as goal
 
 pub returns-then-is_none : goal.returns-then-is_none

@@ -2,7 +2,7 @@ use Rattle.std.proofs.Common.{None, ap, ◌∙◌, subst}
 use Rattle.cert_scan.specs.Ahead.{IsWayAhead}
 use Rattle.cert_scan.specs.declared.bytes.Position.TheVariants.{Number}
 use Rattle.cert_scan.specs.declared.places.Place.TheVariants.{WayFrom}
-use Rattle.cert_scan.proofs.WayRuns.{same_way, way_ends}
+use Rattle.cert_scan.proofs.AtOnce.{same_way, way_ends}
 use Rattle.cert_scan.proofs.scanner.Scan.end_proof.Goals as goal
 
 pub returns : goal.returns

@@ -1,7 +1,7 @@
 use Rattle.std.proofs.Common.{length, take}
 use Rattle.cert_scan.proofs.Stepping.{digits_after, digits_nothing, spoiled_after, spoiled_nothing, failed_after, failed_nothing}
 use Rattle.std.proofs.lemmas.List.{length-take-le}
-use Rattle.cert_scan.proofs.Letters.{letters_after, letters_nothing}
+use Rattle.cert_scan.proofs.LineRuns.{letters_after, letters_nothing}
 use Rattle.cert_scan.proofs.scanner.Scan.take_quietly.Goals as goal
 
 pub returns-in-Number-clause-after : goal.returns-in-Number-clause-after

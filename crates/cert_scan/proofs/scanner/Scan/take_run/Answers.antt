@@ -1,5 +1,4 @@
-use Rattle.cert_scan.proofs.PairRuns.{pair_lists}
-use Rattle.cert_scan.proofs.WayRuns.{way_lists}
+use Rattle.cert_scan.proofs.AtOnce.{pair_lists, way_lists}
 use Rattle.cert_scan.proofs.scanner.Scan.take_run.Goals as goal
 
 pub returns-in-Some : goal.returns-in-Some
