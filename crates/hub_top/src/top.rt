@@ -15,7 +15,7 @@ ghost use Rattle.hub_top.specs.Headline.{Headline};
 use crate::Status;
 use crate::answers::Answer;
 use crate::outcomes::{Settled, intend, write};
-use hub_commands::{Reported, Solved, check, demonstrate, report, solve};
+use hub_commands::{Solved, check, demonstrate, report, solve};
 use hub_io::{Gate, Shelf, Sink};
 use hub_make::instance_text;
 use hub_sources::Halt;
@@ -130,10 +130,10 @@ fn answer<R: Threads + Sync, S: Shelf, G: Gate>(
         }
         Command::Report(source, certificate) => {
             match report(rt, alloc, source, certificate, shelf)? {
-                Reported::Report(instance, certificate) => {
+                Ok((instance, certificate)) => {
                     Ok(Settled::Answered(Answer::Reported(instance, certificate)))
                 }
-                Reported::Refused(ending) => Ok(Settled::Answered(Answer::Judged(ending))),
+                Err(ending) => Ok(Settled::Answered(Answer::Judged(ending))),
             }
         }
         Command::Make(making) => {
