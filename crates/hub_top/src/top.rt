@@ -14,7 +14,7 @@ ghost use Rattle.hub_top.specs.Headline.{Headline};
 
 use crate::Status;
 use crate::answers::Answer;
-use crate::outcomes::{Settled, intend, write};
+use crate::outcomes::{Settled, write};
 use hub_commands::{Solved, check, demonstrate, report, solve};
 use hub_io::{Gate, Shelf, Sink};
 use hub_make::instance_text;
@@ -69,8 +69,7 @@ pub fn run<R: Threads + Sync, S: Shelf, O: Sink, E: Sink, G: Gate>(
     ensures untouched { NameNone (spec.asked (texts words.now)) → shelf.new ≡ shelf.old }
 {
     let settled = settle(rt, alloc, words, shelf, gate);
-    let intended = intend(alloc, &settled);
-    write(rt, alloc, intended, out, err)
+    write(rt, alloc, &settled, out, err)
 }
 
 /// The outcome of arguments and files. It writes nothing.
