@@ -33,4 +33,4 @@ returns-in-Usage g c = rw c.in-Usage.is (inl (written_err _ _ _ _ _ _ _ _ usage 
 pub returns-in-Halted : goal.returns-in-Halted
 returns-in-Halted g c =
     let halt = c.in-Halted.halt in
-    rw c.in-Halted.is (inl (written_err _ _ _ _ _ _ _ _ (halted halt) (halt_puts_nothing halt) c.write_halt.ensures))
+    rw c.in-Halted.is (inl (written_err _ _ _ _ _ _ _ _ (halted halt) (halt_puts_nothing halt) c.write_halt-in-Halted.ensures))
