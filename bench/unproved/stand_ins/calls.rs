@@ -8,7 +8,7 @@
 //! `scan FILE` scans a certificate, and tells how many items it gave, its fault, and the seconds.
 
 use crate::branch_tree::{search, search_from};
-use crate::cert_checker::{Older, Stream, read_older};
+use crate::cert_checker::{Stream, Tested, read_tested};
 use crate::cert_scan::{Scan, Version};
 use crate::ascent_search::{Task, optimize_within};
 use crate::core_cuts::core_cut;
@@ -112,7 +112,7 @@ impl Words {
             }
             "resolve" => {
                 let bytes = std::fs::read(self.option("--from").expect("--from")).expect("OLD");
-                let Ok(Older::Serves(older)) = read_older(&Host, Global, instance, &bytes) else {
+                let Ok(Ok(older)) = read_tested(&Host, Global, instance, Tested::Cuts, &bytes) else {
                     panic!("OLD does not serve")
                 };
                 search_from(Global, &Plain, instance, None, &mut solo, start_of(older))

@@ -17,9 +17,7 @@ use Rattle.cert_scan.specs.declared.items.Item.{Item}
 use Rattle.cert_scan.specs.declared.items.Fault.{Fault}
 use Rattle.cert_conditions.specs.Taken.{HasTaken}
 use Rattle.cert_checker.specs.Fed.{HasCome, HasFedUnless, HasFed, EndsAs}
-use Rattle.cert_conditions.specs.declared.checks.Checks.{Checks}
 use Rattle.cert_checker.specs.declared.streams.Stream.{Stream}
-use Rattle.cert_conditions.proofs.Whole.{problem_by}
 
 -- the bytes are not too many, and a scan of them gave what the check took
 pub record AreCome (bytes : List ℕ) (s : Stream) : Type 0 where
@@ -32,9 +30,6 @@ pub are_come : (bytes : List ℕ) (s : Stream) → s.is_too_long ≡ false → H
 are_come bytes s e h =
     let f = subst (λ b. HasFedUnless b bytes s) e h in
     record { short = omega (arith, f.0); few = omega (arith, f.0); given = f.1.0; come = f.1.1 }
-
-pub are_too_many : (bytes : List ℕ) (s : Stream) → s.is_too_long ≡ true → HasFed bytes s → certificate_limit < length bytes
-are_too_many bytes s e h = subst (λ b. HasFedUnless b bytes s) e h
 
 -- the bytes spell a certificate, and the check took its items
 pub record IsRead (bytes : List ℕ) (s : Stream) : Type 0 where
@@ -67,8 +62,7 @@ why_ends p bytes k (BadLine line) short spells h = absurd h
 why_ends p bytes k (Ended line) short spells h = absurd h
 why_ends p bytes k TooLong short spells h = absurd h
 
--- ---- what the marked cuts are
-
+-- what the marked cuts are
 pub marks_shown : (p : Problem) (bytes : List ℕ) (verdict : Verdict) → IsProblem p → Why p bytes verdict → ProvesMarks p bytes verdict
 marks_shown p bytes (optimal cost) ok why =
     λ k x y mark spells marked. undominated_from one_certificate_lem core_is_undominated p bytes cost cost k x y mark ok why spells marked
@@ -77,16 +71,3 @@ marks_shown p bytes (bounds bound cost) ok why =
 marks_shown p bytes (fails kind line) ok why = tt
 marks_shown p bytes (misread fault) ok why = tt
 marks_shown p bytes too_long ok why = tt
-
-pub marks_end : (c : Checks) (bytes : List ℕ) (k : Stated) (e : Ending) → length bytes ≤ certificate_limit → Spells bytes k → HasTaken (items_of k) c
-    → EndsAs c.instance.now k e → ProvesMarks c.instance.now bytes (verdict_of e)
-marks_end c bytes k (Optimal cost) short spells taken h =
-    marks_shown c.instance.now bytes (verdict_of (Optimal cost)) (problem_by c k spells.in_range taken h.0)
-    (why_ends c.instance.now bytes k (Optimal cost) short spells h)
-marks_end c bytes k (Bounds bound cost) short spells taken h =
-    marks_shown c.instance.now bytes (verdict_of (Bounds bound cost)) (problem_by c k spells.in_range taken h.0)
-    (why_ends c.instance.now bytes k (Bounds bound cost) short spells h)
-marks_end c bytes k (No kind line) short spells taken h = tt
-marks_end c bytes k (BadLine line) short spells taken h = tt
-marks_end c bytes k (Ended line) short spells taken h = tt
-marks_end c bytes k TooLong short spells taken h = tt

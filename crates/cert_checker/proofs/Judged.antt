@@ -6,7 +6,7 @@ use Rattle.hub_spec.proofs.WeakDuality.{no_plan_below_bound}
 use Rattle.cert_spec.specs.Stated.{Stated}
 use Rattle.cert_spec.specs.Text.{Spells}
 use Rattle.cert_spec.specs.Verdicts.{Verdict, optimal, bounds, fails, misread, too_long, Why, Certifies, certificate_limit}
-use Rattle.cert_checker.specs.Shows.{verdict_of, Proves, ProvesOptimal, ProvesBound}
+use Rattle.cert_checker.specs.Shows.{verdict_of, Proves, ProvesMarks, ProvesOptimal, ProvesBound}
 use Rattle.cert_checker.specs.declared.verdicts.Ending.{Ending}
 use Rattle.cert_checker.specs.declared.verdicts.Ending.TheVariants.{Optimal, Bounds, No, BadLine, Ended, TooLong}
 use Rattle.cert_scan.specs.Parts.{items_of}
@@ -14,7 +14,7 @@ use Rattle.cert_conditions.specs.Taken.{HasTaken}
 use Rattle.cert_conditions.specs.declared.checks.Checks.{Checks}
 use Rattle.cert_conditions.proofs.Whole.{problem_by}
 use Rattle.cert_checker.specs.Fed.{EndsAs}
-use Rattle.cert_checker.proofs.Ends.{why_ends}
+use Rattle.cert_checker.proofs.Ends.{why_ends, marks_shown}
 
 certifies_bound : (p : Problem) (bytes : List ℕ) (bound cost : ℕ) → IsProblem p → Certifies p bytes bound cost → ProvesBound p bytes bound cost
 certifies_bound p bytes bound cost ok c =
@@ -54,14 +54,16 @@ shown p bytes too_long ok why = tt
 
 -- what the ending of a check shows
 pub ending_shown : (c : Checks) (bytes : List ℕ) (k : Stated) (e : Ending) → length bytes ≤ certificate_limit → Spells bytes k
-    → HasTaken (items_of k) c → EndsAs c.instance.now k e → Proves c.instance.now bytes (verdict_of e)
+    → HasTaken (items_of k) c → EndsAs c.instance.now k e → Proves c.instance.now bytes (verdict_of e) × ProvesMarks c.instance.now bytes (verdict_of e)
 ending_shown c bytes k (Optimal cost) short spells taken h =
-    shown c.instance.now bytes (verdict_of (Optimal cost)) (problem_by c k spells.in_range taken h.0)
-    (why_ends c.instance.now bytes k (Optimal cost) short spells h)
+    let ok = problem_by c k spells.in_range taken h.0 in
+    let why = why_ends c.instance.now bytes k (Optimal cost) short spells h in
+    (shown c.instance.now bytes (optimal cost) ok why, marks_shown c.instance.now bytes (optimal cost) ok why)
 ending_shown c bytes k (Bounds bound cost) short spells taken h =
-    shown c.instance.now bytes (verdict_of (Bounds bound cost)) (problem_by c k spells.in_range taken h.0)
-    (why_ends c.instance.now bytes k (Bounds bound cost) short spells h)
-ending_shown c bytes k (No kind line) short spells taken h = tt
-ending_shown c bytes k (BadLine line) short spells taken h = tt
-ending_shown c bytes k (Ended line) short spells taken h = tt
-ending_shown c bytes k TooLong short spells taken h = tt
+    let ok = problem_by c k spells.in_range taken h.0 in
+    let why = why_ends c.instance.now bytes k (Bounds bound cost) short spells h in
+    (shown c.instance.now bytes (bounds bound cost) ok why, marks_shown c.instance.now bytes (bounds bound cost) ok why)
+ending_shown c bytes k (No kind line) short spells taken h = (tt, tt)
+ending_shown c bytes k (BadLine line) short spells taken h = (tt, tt)
+ending_shown c bytes k (Ended line) short spells taken h = (tt, tt)
+ending_shown c bytes k TooLong short spells taken h = (tt, tt)

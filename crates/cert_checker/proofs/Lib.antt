@@ -14,6 +14,5 @@ mod LineDuals
 mod RunPlaces
 mod RunClaims
 mod MarkedClaims
-mod OlderChecks
 mod OlderCuts
 pub mod Sizes

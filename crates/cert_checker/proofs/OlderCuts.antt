@@ -13,7 +13,8 @@ use Rattle.cert_spec.specs.Text.{dual_runs}
 use Rattle.cert_spec.specs.Conditions.{Kind, Dual, Sum, claim, FailsFirst, older_conditions}
 use Rattle.cert_spec.proofs.PartConditions.{first_cut_line, last_dual_line, cut_lines as lines_of_cut, dual_claims, proved_claims, one_cut_claims, cut_claims, all_cut_claims}
 use Rattle.cert_spec.proofs.Claims.{cut_claimed}
-use Rattle.cert_spec.proofs.ByLines.{older_by_lines}
+use Rattle.cert_spec.proofs.ByLines.{older_by_lines, has_cuts_by_lines}
+use Rattle.cert_spec.proofs.Decided.{failure_or_all}
 use Rattle.cert_format.specs.Parts.{HasProofs}
 use Rattle.cert_conditions.specs.Kinds.{kind_of}
 use Rattle.cert_conditions.specs.declared.kinds.Kind as code
@@ -151,3 +152,8 @@ all_before p k x line sized past before = record {
 pub size_fails : (p : Problem) (k : Stated) → IsStatedInRange k → (IsOfSize p k.proof → ⊥) → FailsFirst (older_conditions p k) (kind_of code.TheVariants.Size) 2
 size_fails p k range other =
     ((older_by_lines p k range).fail (kind_of code.TheVariants.Size) 2).0 (inl (other, refl, refl))
+
+-- a certificate with cuts of the problem has no condition that fails
+pub none_fails : (p : Problem) (k : Stated) (kind : code.Kind) (line : ℕ) → IsStatedInRange k → FailsFirst (older_conditions p k) (kind_of kind) line
+    → HasCutsOf p k.proof → ⊥
+none_fails p k kind line range f has = failure_or_all (older_conditions p k) (kind_of kind) line ((has_cuts_by_lines p k range).1 has) f

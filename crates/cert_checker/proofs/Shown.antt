@@ -1,15 +1,12 @@
 -- What a certificate shows that holds.
-use Rattle.std.proofs.Common.{◌≡◌, ℕ, ◌≤◌, List, [], ◌∷◌, length, zip, Option, Some, Contains, inl, inr, ⊎_elim, refl, subst, ◌∙◌, arith}
+use Rattle.std.proofs.Common.{◌≡◌, ℕ, ◌≤◌, List, [], ◌∷◌, zip, Option, Some, Contains, inl, inr, ⊎_elim, subst, ◌∙◌, arith}
 use Rattle.std.proofs.lemmas.Bool.{cases_eq}
 use Rattle.std.specs.List.{AllZip}
 use Rattle.hub_spec.specs.Problem.{Problem, IsProblem}
 use Rattle.hub_spec.specs.Plans.{NoPlanBelow, IsOptimal}
 use Rattle.cert_spec.specs.Stated.{Stated, IsStatedInRange, IsAsMarked, IsStatedOf}
-use Rattle.cert_spec.specs.Text.{Spells}
 use Rattle.cert_spec.specs.Conditions.{AllHold, conditions}
-use Rattle.cert_spec.specs.Verdicts.{certificate_limit, Why}
 use Rattle.cert_spec.proofs.VerdictLemmas.{holds_by_lines}
-use Rattle.cert_spec.proofs.OneText.{one_certificate_lem}
 use Rattle.hub_spec.proofs.WeakDuality.{no_plan_below_bound}
 use Rattle.hub_spec.specs.Cuts.{Cut}
 use Rattle.hub_spec.proofs.Decisions.{Contains-cases, Contains-none}
@@ -17,7 +14,6 @@ use Rattle.core_spec.specs.CoreCuts.{Mark}
 use Rattle.core_spec.proofs.Undominated.{core_is_undominated}
 use Rattle.cert_checker.specs.declared.verdicts.Verdict as answer
 use Rattle.cert_checker.specs.Answers.{AreUndominated, IsByCost, IsVerdict, ShowsBound, ShowsOptimal, ShowsMarks}
-use Rattle.cert_checker.specs.Shows.{verdict_on, ProvesMarks}
 
 pub shown_bound : (p : Problem) (k : Stated) → IsProblem p → IsStatedInRange k → AllHold (conditions p k) → IsStatedOf p k × NoPlanBelow p k.proof.bound
 shown_bound p k ok range h =
@@ -64,20 +60,3 @@ all_shown p k answer.TheVariants.Bounds ok range h apart =
       marks = shown_marks p k ok bound.0;
     }
 all_shown p k (answer.TheVariants.No kind line) ok range h by = absurd by
-
--- bytes that spell the certificate have the verdict on it
-pub why_by : (p : Problem) (bytes : List ℕ) (k : Stated) (v : answer.Verdict) → length bytes ≤ certificate_limit → Spells bytes k → IsVerdict p k v
-    → ShowsBound p k v → Why p bytes (verdict_on k v)
-why_by p bytes k answer.TheVariants.Optimal short spells is shows =
-    record { not_too_long = short; certificate = (k, spells, shows.0, is.1, refl) }
-why_by p bytes k answer.TheVariants.Bounds short spells is shows =
-    (is.1, record { not_too_long = short; certificate = (k, spells, shows.0, refl, refl) })
-why_by p bytes k (answer.TheVariants.No kind line) short spells is shows = (short, (k, spells, is))
-
--- and what their marked cuts say
-pub marks_by : (p : Problem) (bytes : List ℕ) (k : Stated) (v : answer.Verdict) → Spells bytes k → ShowsMarks p k v → ProvesMarks p bytes (verdict_on k v)
-marks_by p bytes k answer.TheVariants.Optimal spells shows = λ m x y mark other among.
-    subst (AreUndominated p) (one_certificate_lem bytes k m spells other) shows x y mark among
-marks_by p bytes k answer.TheVariants.Bounds spells shows = λ m x y mark other among.
-    subst (AreUndominated p) (one_certificate_lem bytes k m spells other) shows x y mark among
-marks_by p bytes k (answer.TheVariants.No kind line) spells shows = tt

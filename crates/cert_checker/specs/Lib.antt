@@ -6,4 +6,4 @@ pub mod Answers
 pub mod Shows
 pub mod Fed
 pub mod Held
-pub mod Sized
+pub mod Readings

@@ -1,5 +1,5 @@
--- The result of the check of a text, what it proves of the plan that the text names, and what is said of an older text.
-use Rattle.std.specs.Prelude.{◌≡◌, ℕ, List, Option, Some, None, Contains}
+-- The result of the check of a text, and what it proves of the plan that the text names.
+use Rattle.std.specs.Prelude.{◌≡◌, ℕ, List, Some, Contains}
 use Rattle.hub_spec.specs.Problem.{Problem}
 use Rattle.hub_spec.specs.Plans.{IsPlan, IsOptimal, NoPlanBelow, plan_cost}
 use Rattle.hub_spec.specs.Cuts.{Cut, IsCut, IsTight}
@@ -8,10 +8,7 @@ use Rattle.core_spec.specs.Domination.{Dominates}
 use Rattle.cert_spec.specs.Stated.{Stated, cuts_of}
 use Rattle.cert_spec.specs.Text.{Spells}
 use Rattle.cert_spec.specs.Grammar.{bad_line, ended}
-use Rattle.cert_spec.specs.Verdicts.{Verdict, optimal, bounds, fails, misread, too_long, Older, serves, serves_not, unread, over_limit}
-use Rattle.cert_conditions.specs.declared.kinds.Kind.{Kind}
-use Rattle.cert_checker.specs.declared.verdicts.Verdict as answer
-use Rattle.cert_checker.specs.declared.older.Older as said
+use Rattle.cert_spec.specs.Verdicts.{Verdict, optimal, bounds, fails, misread, too_long}
 use Rattle.cert_checker.specs.declared.verdicts.Ending.{Ending}
 use Rattle.cert_checker.specs.declared.verdicts.Ending.TheVariants.{Optimal, Bounds, No, BadLine, Ended, TooLong}
 use Rattle.cert_conditions.specs.Kinds.{kind_of}
@@ -24,25 +21,6 @@ verdict_of (No kind line) = fails (kind_of kind) line
 verdict_of (BadLine line) = misread (bad_line line)
 verdict_of (Ended line) = misread (ended line)
 verdict_of TooLong = too_long
-
--- the verdict on a certificate's text, by that on the certificate
-abbrev pub verdict_on : Stated → answer.Verdict → Verdict
-verdict_on k answer.TheVariants.Optimal = optimal k.proof.cost
-verdict_on k answer.TheVariants.Bounds = bounds k.proof.bound k.proof.cost
-verdict_on k (answer.TheVariants.No kind line) = fails (kind_of kind) line
-
--- what is said of an older certificate's bytes, as the definitions have it
-abbrev pub older_of : said.Older → Older
-older_of (said.TheVariants.Serves k) = serves k
-older_of (said.TheVariants.ServesNot kind line) = serves_not (kind_of kind) line
-older_of (said.TheVariants.BadLine line) = unread (bad_line line)
-older_of (said.TheVariants.Ended line) = unread (ended line)
-older_of said.TheVariants.TooLong = over_limit
-
--- what is said of bytes that spell the certificate, by the first of its conditions that fails
-abbrev pub older_on : Stated → Option (Kind × ℕ) → Older
-older_on k None = serves k
-older_on k (Some f) = serves_not (kind_of f.0) f.1
 
 -- the bytes spell a certificate that names a plan of this cost, and no plan of the instance costs less
 pub record ProvesOptimal (p : Problem) (bytes : List ℕ) (cost : ℕ) : Type 0 where

@@ -10,7 +10,7 @@ ghost use Rattle.cert_checker.specs.Held.{IsVerdictOnHeld, EndsOver};
 
 use crate::endings::NoEnding;
 use crate::streams::Stream;
-use crate::texts::MOST_CERTIFICATE_BYTES;
+use crate::tested::MOST_CERTIFICATE_BYTES;
 use crate::verdicts::Ending;
 use hub_io::Shelf;
 use hub_model::Instance;

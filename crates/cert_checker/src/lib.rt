@@ -5,16 +5,16 @@
 //!
 //! - [`Stream`] scans bytes that arrive piece by piece, and [`check_held`] a file on a shelf.
 //! - [`check`] goes over a certificate in memory (`walks`). It tests the duals of a cut in parallel before it takes their
-//!   lines (`side_by_side`). [`check_text`] parses bytes as a certificate and checks it.
+//!   lines (`side_by_side`).
 //!
 //! A marked cut must be Pareto-optimal (Magnanti and Wong 1981) by its mark. If the verdict accepts the certificate, no
 //! Benders cut of the instance that is tight at the hubs of a mark dominates the marked cut.
 //!
 //! An older certificate may be the warm start of a search. [`check_cuts`] tests its size and its cuts for the present
-//! instance, and ignores its bound, plan, tree and marks. [`read_older`] parses bytes as such a certificate. It returns the
-//! certificate if its size is the instance's and its cuts are cuts of the instance, and otherwise the reason. [`read_sized`]
-//! tests the text and the size line alone. The duals may then belong to an instance with other fixed costs, numbers of hubs
-//! or factors: a search by dual ascent trusts none of them.
+//! instance, and ignores its bound, plan, tree and marks. [`read_tested`] parses bytes as a certificate and tests all of
+//! it, its size and its cuts, or its size alone. It returns the certificate, or the [`Ending`] that refuses the bytes.
+//! Where the size alone is tested, the duals may belong to an instance with other fixed costs, numbers of hubs or
+//! factors: a search by dual ascent trusts none of them.
 #![tactic(auto)]
 
 // What is answered.
@@ -29,19 +29,17 @@ mod walks;
 // Bytes.
 mod held;
 mod streams;
-mod texts;
+mod tested;
 
 // An older certificate.
 mod older;
-mod older_sizes;
 mod runs;
 
 pub use cert_conditions::Kind;
 pub use checks::check;
 pub use endings::NoEnding;
 pub use held::check_held;
-pub use older::{Older, check_cuts, read_older};
-pub use older_sizes::read_sized;
+pub use older::check_cuts;
 pub use streams::Stream;
-pub use texts::{MOST_CERTIFICATE_BYTES, check_text};
+pub use tested::{MOST_CERTIFICATE_BYTES, Tested, read_tested};
 pub use verdicts::{Ending, Verdict};

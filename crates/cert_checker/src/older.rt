@@ -1,4 +1,4 @@
-//! An older certificate as the warm start of a search.
+//! The cuts of an older certificate, for the warm start of a search.
 
 ghost use Rattle.std.specs.Prelude.{◌≡◌, ℕ, ◌+◌, ◌*◌, ◌<◌, ◌≤◌, ◌↔◌, length, slice_index, IsTrue, IfOk, All};
 ghost use Rattle.std.specs.Option.{IfSome, IfNone, IsNone};
@@ -7,72 +7,20 @@ ghost use Rattle.hub_spec.specs.Cuts.{IsWithinSums, IsCut};
 ghost use Rattle.hub_spec.specs.Certificates.{HasCutsOf};
 ghost use Rattle.hub_spec.specs.Ranges.{IsDualInRange, IsCutInRange};
 ghost use Rattle.cert_spec.specs.Conditions.{FailsFirst, older_conditions};
-ghost use Rattle.cert_spec.specs.Verdicts.{IsOlder};
 ghost use Rattle.cert_scan.specs.Versions.{version_number};
 ghost use Rattle.cert_conditions.specs.Kinds.{kind_of};
 ghost use Rattle.cert_checker.specs.Duals.{IsFirstFailing};
 ghost use Rattle.cert_checker.specs.Older.{dual_place, cut_lines, CutFails};
-ghost use Rattle.cert_checker.specs.Shows.{older_of, older_on};
 
 use crate::checks::{SIZE_LINE, is_of_size};
 use crate::runs::{run_count, run_place};
-use crate::texts::MOST_CERTIFICATE_BYTES;
 use cert_conditions::Kind;
-use cert_format::{CertFault, Certificate, Version, read_cert};
+use cert_format::{Certificate, Version};
 use cut_model::{Mark, StatedCut, StatedDual};
 use dual_lines::DualLine;
 use hub_model::{Instance, MOST_COST};
 use std::alloc::{AllocError, Global};
 use std::thread::Threads;
-
-/// What bytes are as an older certificate. Lines count from 1.
-#[derive(Drop)]
-pub enum Older {
-    /// They are this certificate. Its size is the instance's, and its cuts are cuts of the instance.
-    Serves(Certificate),
-    /// They are a certificate. The first of these conditions that fails is of this kind, at this line.
-    ServesNot { kind: Kind, line: u64 },
-    /// This line is wrong, or bytes follow the last line.
-    BadLine { line: u64 },
-    /// They end before this line ends.
-    Ended { line: u64 },
-    /// They are more than 2^30 bytes.
-    TooLong,
-}
-
-/// Parses bytes as an older certificate and tests its size and its cuts. Its bound, plan and tree may belong to another
-/// instance, and its marks are ignored. It fails only where memory runs out.
-pub fn read_older<R: Threads + Sync>(
-    rt: &R,
-    alloc: Global,
-    instance: &Instance,
-    bytes: &[u8],
-) -> Result<Older, AllocError>
-    ensures { IfOk result (λ o. IsOlder instance.now bytes.now (older_of o)) }
-{
-    if bytes.len() > MOST_CERTIFICATE_BYTES {
-        return Ok(Older::TooLong);
-    }
-    match read_cert(alloc, bytes) {
-        Ok(certificate) => {
-            let failing = check_cuts(rt, alloc, instance, &certificate)?;
-            Ok(older_by(certificate, failing))
-        }
-        Err(CertFault::BadLine { line }) => Ok(Older::BadLine { line }),
-        Err(CertFault::Ended { line }) => Ok(Older::Ended { line }),
-        Err(CertFault::OutOfMemory) => Err(AllocError),
-    }
-}
-
-// What is said of bytes that spell this certificate, by the first condition that fails.
-fn older_by(certificate: Certificate, failing: Option<(Kind, u64)>) -> Older
-    ensures { older_of result ≡ older_on certificate failing }
-{
-    match failing {
-        None => Older::Serves(certificate),
-        Some((kind, line)) => Older::ServesNot { kind, line },
-    }
-}
 
 /// Tests the size and the cuts of an older certificate, whatever their marks. It returns the first condition that fails, with
 /// its line in the certificate's text, counted from 1, or `None`.

@@ -10,7 +10,7 @@ ghost use Rattle.cert_scan.specs.Scans.{given_all};
 ghost use Rattle.cert_conditions.specs.Taken.{HasTaken};
 ghost use Rattle.cert_checker.specs.Fed.{EndsAs, HasCome, HasFed, BeginsCut, EndsCutLine, HasTreeCount};
 
-use crate::texts::MOST_CERTIFICATE_BYTES;
+use crate::tested::MOST_CERTIFICATE_BYTES;
 use crate::verdicts::Ending;
 use cert_conditions::Checks;
 use cert_scan::{Fault, Scan};

@@ -7,4 +7,4 @@ pub mod Spelled
 pub mod Versions
 pub mod Networks
 pub mod OlderCertificates
-pub mod TooLong
+pub mod ReadFiles

@@ -1,44 +1,54 @@
 -- What is said of the bytes of the older certificate that is named.
-use Rattle.std.proofs.Common.{◌≡◌, List, ℕ, Option, Some, None, inl, inr, ⊎_elim, sym, subst, ap, ◌∙◌}
+use Rattle.std.proofs.Common.{◌≡◌, List, ℕ, Option, Some, None, Ok, Err, inl, inr, ⊎_elim, refl, sym, subst, ap, ◌∙◌}
 use Rattle.std.specs.Prelude.{IfSome}
 use Rattle.std.proofs.lemmas.Option.{none-some}
-use Rattle.hub_io.specs.Outside.{Files, Holds, HoldsMore}
+use Rattle.hub_io.specs.Outside.{Files}
 use Rattle.hub_spec.specs.Problem.{Problem}
 use Rattle.hub_spec.specs.Certificates.{HasCutsOf}
 use Rattle.search_spec.specs.Again.{Start, start_of, IsStartOf}
 use Rattle.search_spec.specs.Costs.{IsAtMostOf}
 use Rattle.cert_spec.specs.Stated.{Stated}
-use Rattle.cert_spec.specs.Verdicts.{Why, too_long, certificate_limit, Older, serves, serves_not, unread, over_limit}
+use Rattle.cert_spec.specs.Grammar.{bad_line, ended}
+use Rattle.cert_spec.specs.Verdicts.{Older, serves, serves_not, unread, over_limit, IsOlder}
 use Rattle.cert_spec.proofs.OlderTexts.{one_older_from}
 use Rattle.cert_spec.proofs.OneText.{one_certificate_lem}
 use Rattle.cert_spec.proofs.TextOrFault.{each_is_text_or_fault_lem}
+use Rattle.cert_conditions.specs.Kinds.{kind_of}
+use Rattle.cert_checker.specs.Readings.{IsSized, IsReadAs}
+use Rattle.cert_checker.specs.declared.tested.Tested.TheVariants.{Cuts, Size}
+use Rattle.cert_checker.specs.declared.verdicts.Ending.{Ending}
+use Rattle.cert_checker.specs.declared.verdicts.Ending.TheVariants.{Optimal, Bounds, No, BadLine, Ended, TooLong}
 use Rattle.cert_checker.proofs.Sizes.{IsServing, still_serving}
 use Rattle.hub_words.specs.Requests.{How, follow, again, freely, older_named}
 use Rattle.hub_commands.specs.Methods.{warm}
 use Rattle.hub_commands.specs.Older.{IsSaid, HoldsOlder, MayBegin, BegunAt}
-use Rattle.hub_commands.specs.Solving.{GoesBy, IsBegun}
+use Rattle.hub_commands.specs.Judging.{IsReadFrom}
+use Rattle.hub_commands.specs.Solving.{TellsWhy, GoesBy, IsBegun}
 use Rattle.hub_commands.specs.Lines.{older_line}
 use Rattle.hub_sources.proofs.OneReading.{same_bytes}
-use Rattle.hub_commands.proofs.TooLong.{too_long_verdict}
 
--- what is said of bytes that are held
-pub said_held : (p : Problem) (held : Option Files) (how : How) (name bytes : List ℕ) (said : Older) → older_named how ≡ Some name
-    → Holds held name bytes → IsSaid how p bytes said → HoldsOlder held p how said
-said_held p None how name bytes said named is says = record { older = name; named = named; bytes = bytes; bytes_held = tt; is = says }
-said_held p (Some files) how name bytes said named is says =
-    record { older = name; named = named; bytes = bytes; bytes_held = is; is = says }
+-- what is said of bytes that an ending refuses
+abbrev said_by : Ending → Older
+said_by (No kind line) = serves_not (kind_of kind) line
+said_by (BadLine line) = unread (bad_line line)
+said_by (Ended line) = unread (ended line)
+said_by other = over_limit
 
-over_limit_said : (p : Problem) (how : How) (bytes : List ℕ) → Why p bytes too_long → IsSaid how p bytes over_limit
-over_limit_said p (follow rule) bytes h = h
-over_limit_said p (again older) bytes h = h
-over_limit_said p (freely gap from) bytes h = h
+cuts_refused : (p : Problem) (bytes : List ℕ) (e : Ending) → IsReadAs p Cuts bytes (Err e) → IsOlder p bytes (said_by e) × TellsWhy (said_by e) e
+cuts_refused p bytes (Optimal cost) h = absurd h
+cuts_refused p bytes (Bounds bound cost) h = absurd h
+cuts_refused p bytes (No kind line) h = (h, (refl, refl))
+cuts_refused p bytes (BadLine line) h = (h, (refl, refl))
+cuts_refused p bytes (Ended line) h = (h, (refl, refl))
+cuts_refused p bytes TooLong h = (h, (refl, refl))
 
--- and of a file that is too long
-pub too_long_said : (p : Problem) (held : Option Files) (how : How) (name : List ℕ) → older_named how ≡ Some name
-    → HoldsMore held name certificate_limit → HoldsOlder held p how over_limit
-too_long_said p held how name named more =
-    let v = too_long_verdict p held name more in
-    record { older = name; named = named; bytes = v.bytes; bytes_held = v.bytes_held; is = over_limit_said p how v.bytes v.why }
+size_refused : (p : Problem) (bytes : List ℕ) (e : Ending) → IsReadAs p Size bytes (Err e) → IsSized p bytes (said_by e) × TellsWhy (said_by e) e
+size_refused p bytes (Optimal cost) h = absurd h
+size_refused p bytes (Bounds bound cost) h = absurd h
+size_refused p bytes (No kind line) h = (h, (refl, refl))
+size_refused p bytes (BadLine line) h = (h, (refl, refl))
+size_refused p bytes (Ended line) h = (h, (refl, refl))
+size_refused p bytes TooLong h = (h, (refl, refl))
 
 -- where bytes serve nothing else is said of them
 still_said : (p : Problem) (how : How) (bytes : List ℕ) (k : Stated) (said : Older) → IsSaid how p bytes (serves k) → IsSaid how p bytes said
@@ -71,18 +81,36 @@ no_line_where_begun files p how said line may g tells =
     may
 
 -- a search begins again with the start of one that serves
-pub begun_again : (held : Option Files) (p : Problem) (how : How) (name : List ℕ) (k : Stated) (said : Older) (start : Start) → how ≡ again name
-    → HoldsOlder held p how said → said ≡ serves k → start ≡ start_of k.proof → (HasCutsOf p k.proof → IsStartOf p start)
-    → GoesBy held p how (warm start)
-begun_again held p how name k said start is h serving same starts =
-    let there : HoldsOlder held p how (serves k) = subst (λ (o : Older). HoldsOlder held p how o) serving h in
-    let named : HoldsOlder held p (again name) (serves k) = subst (λ (x : How). HoldsOlder held p x (serves k)) is there in
-    subst (λ (x : How). GoesBy held p x (warm start)) (sym is) (k, named, ap (λ s. warm s) same, starts named.is.2)
+pub begun_again : (held : Option Files) (p : Problem) (how : How) (name : List ℕ) (k : Stated) (start : Start) → how ≡ again name
+    → IsReadFrom p Cuts held name (Ok k) → start ≡ start_of k.proof → (HasCutsOf p k.proof → IsStartOf p start) → GoesBy held p how (warm start)
+begun_again held p how name k start is read same starts =
+    let older : HoldsOlder held p (again name) (serves k) =
+    record { older = name; named = refl; bytes = read.bytes; bytes_held = read.bytes_held; is = read.is } in
+    subst (λ (x : How). GoesBy held p x (warm start)) (sym is) (k, older, ap (λ s. warm s) same, starts read.is.2)
+
+pub again_refused : (held : Option Files) (p : Problem) (how : How) (name : List ℕ) (e : Ending) → how ≡ again name
+    → IsReadFrom p Cuts held name (Err e) → (said : Older) × TellsWhy said e × HoldsOlder held p how said
+again_refused held p how name e is read =
+    let refused = cuts_refused p read.bytes e read.is in
+    let older : HoldsOlder held p (again name) (said_by e) =
+    record { older = name; named = refl; bytes = read.bytes; bytes_held = read.bytes_held; is = refused.0 } in
+    (said_by e, refused.1, subst (λ (x : How). HoldsOlder held p x (said_by e)) (sym is) older)
 
 -- and one that follows no rule may begin with it
-pub may_begin : (held : Option Files) (p : Problem) (how : How) (k : Stated) (said : Older) → HoldsOlder held p how said → said ≡ serves k
-    → HoldsOlder held p how (serves k)
-may_begin held p how k said h serving = subst (λ (o : Older). HoldsOlder held p how o) serving h
+pub may_begin : (held : Option Files) (p : Problem) (how : How) (gap : ℕ) (name : List ℕ) (k : Stated) → how ≡ freely gap (Some name)
+    → IsReadFrom p Size held name (Ok k) → HoldsOlder held p how (serves k)
+may_begin held p how gap name k is read =
+    let older : HoldsOlder held p (freely gap (Some name)) (serves k) =
+    record { older = name; named = refl; bytes = read.bytes; bytes_held = read.bytes_held; is = read.is } in
+    subst (λ (x : How). HoldsOlder held p x (serves k)) (sym is) older
+
+pub freely_refused : (held : Option Files) (p : Problem) (how : How) (gap : ℕ) (name : List ℕ) (e : Ending) → how ≡ freely gap (Some name)
+    → IsReadFrom p Size held name (Err e) → (said : Older) × TellsWhy said e × HoldsOlder held p how said
+freely_refused held p how gap name e is read =
+    let refused = size_refused p read.bytes e read.is in
+    let older : HoldsOlder held p (freely gap (Some name)) (said_by e) =
+    record { older = name; named = refl; bytes = read.bytes; bytes_held = read.bytes_held; is = refused.0 } in
+    (said_by e, refused.1, subst (λ (x : How). HoldsOlder held p x (said_by e)) (sym is) older)
 
 pub begun_may : (held : Option Files) (p : Problem) (how : How) (cost : ℕ) → BegunAt held p how cost → MayBegin held p how
 begun_may held p how cost begun = ⊎_elim (λ none. inl none) (λ older. inr (older.0, older.1)) begun

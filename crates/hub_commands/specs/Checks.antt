@@ -1,6 +1,6 @@
 -- What `check` and `report` answer for the files that they name.
-use Rattle.std.specs.Prelude.{◌≡◌, ℕ, ◌≤◌, List, length, Option, Some, None}
-use Rattle.hub_io.specs.Outside.{Files}
+use Rattle.std.specs.Prelude.{◌≡◌, ℕ, ◌≤◌, List, length, Option, None}
+use Rattle.hub_io.specs.Outside.{Files, Holds}
 use Rattle.hub_spec.specs.Problem.{Problem}
 use Rattle.cert_spec.specs.Stated.{Stated, IsStatedOf}
 use Rattle.cert_spec.specs.Text.{Spells}
@@ -15,7 +15,7 @@ pub record JudgesFile (held : Option Files) (s : Source) (certificate : List ℕ
   pub problem : Problem
   pub instance : WhereTold held (λ files. HoldsInstance files s problem)
   pub bytes : List ℕ
-  pub bytes_held : WhereTold held (λ files. files certificate ≡ Some bytes)
+  pub bytes_held : Holds held certificate bytes
   pub why : Why problem bytes verdict
   pub proves : Proves problem bytes verdict
   pub marks : ProvesMarks problem bytes verdict
@@ -25,7 +25,7 @@ pub record ReportsFile (held : Option Files) (s : Source) (certificate text : Li
   pub problem : Problem
   pub instance : WhereTold held (λ files. HoldsInstance files s problem)
   pub bytes : List ℕ
-  pub bytes_held : WhereTold held (λ files. files certificate ≡ Some bytes)
+  pub bytes_held : Holds held certificate bytes
   pub not_too_long : length bytes ≤ certificate_limit
   pub stated : Stated
   pub spelled : Spells bytes stated

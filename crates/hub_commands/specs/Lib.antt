@@ -8,4 +8,3 @@ pub mod VerdictStatuses
 pub mod Checks
 pub mod Judging
 pub mod Lines
-pub mod Reporting

@@ -1,14 +1,13 @@
 -- The older certificate that is named.
 use Rattle.std.specs.Prelude.{◌≡◌, ℕ, List, Option, Some, None, ◌⊎◌}
-use Rattle.hub_io.specs.Outside.{Files}
+use Rattle.hub_io.specs.Outside.{Files, Holds}
 use Rattle.hub_spec.specs.Problem.{Problem}
 use Rattle.search_spec.specs.Again.{start_of}
 use Rattle.search_spec.specs.Costs.{IsAtMostOf}
 use Rattle.cert_spec.specs.Stated.{Stated}
 use Rattle.cert_spec.specs.Verdicts.{Older, serves, IsOlder}
 use Rattle.hub_words.specs.Requests.{Search, Solving, How, follow, again, freely, older_named}
-use Rattle.cert_checker.specs.Sized.{IsSized}
-use Rattle.hub_sources.specs.Sources.{alone, WhereTold}
+use Rattle.cert_checker.specs.Readings.{IsSized}
 use Rattle.hub_sources.specs.Named.{IsFileOf}
 use Rattle.hub_commands.specs.Methods.{Method, method_of, warm}
 
@@ -24,7 +23,7 @@ pub record HoldsOlder (held : Option Files) (p : Problem) (how : How) (said : Ol
   pub older : List ℕ
   pub named : older_named how ≡ Some older
   pub bytes : List ℕ
-  pub bytes_held : WhereTold held (λ files. files older ≡ Some bytes)
+  pub bytes_held : Holds held older bytes
   pub is : IsSaid how p bytes said
 
 -- no older certificate is named, or its file holds one that serves

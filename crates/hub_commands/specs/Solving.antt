@@ -20,7 +20,6 @@ use Rattle.hub_words.specs.Requests.{node_by_node, by_core_cuts, by_rounds, How,
 use Rattle.hub_words.specs.Views.{rule_seen}
 use Rattle.hub_commands.specs.declared.searching.Course.TheVariants.{Cold, Warm}
 use Rattle.hub_commands.specs.declared.solving.Solved.{Solved}
-use Rattle.hub_commands.specs.declared.preparing.Reading.{Reading}
 use Rattle.hub_commands.specs.declared.preparing.Prepared.{Prepared}
 use Rattle.hub_commands.specs.declared.status.Status.TheVariants.{No}
 use Rattle.hub_commands.specs.Methods.{Course, cold, warm}
@@ -34,7 +33,6 @@ use Rattle.hub_sources.specs.Told.{ToldInstance}
 use Rattle.cut_pool.specs.declared.found.Found as finding
 use Rattle.hub_commands.specs.declared.searching.Course as code
 use Rattle.hub_commands.specs.declared.solving.Solved.TheVariants as solved
-use Rattle.hub_commands.specs.declared.preparing.Reading.TheVariants as reading
 use Rattle.hub_commands.specs.declared.preparing.Prepared.TheVariants as prepared
 
 -- the course of the code as the specs have it
@@ -109,17 +107,6 @@ abbrev pub ComesTo : Option Files → Solving → Solved → Type 0
 ComesTo held s (solved.Found instance found) = IsSolution held s instance found
 ComesTo held s (solved.NoNetwork i j) = LacksNetwork held s.source (i, j)
 ComesTo held s (solved.Refused ending) = (said : Older) × TellsWhy said ending × RefusesOlder held s said
-
--- the reading of an older certificate: it serves, or the ending says in one line why it does not
-abbrev pub IsReadingAs : Older → Reading → Type 0
-IsReadingAs said (reading.Serves certificate) = said ≡ serves certificate
-IsReadingAs said (reading.Refused ending) = TellsWhy said ending
-
--- the file that is named holds bytes of which that is said
-pub record IsReadingOf (held : Option Files) (p : Problem) (how : How) (read : Reading) : Type 0 where
-  pub said : Older
-  pub older_held : HoldsOlder held p how said
-  pub reads : IsReadingAs said read
 
 -- the request is for a search by a rule, on this course
 abbrev pub GoesBy : Option Files → Problem → How → Course → Type 0

@@ -2,6 +2,7 @@
 
 ghost use Rattle.std.specs.Prelude.{◌≡◌, ◌⊎◌, IfOk, IfErr};
 ghost use Rattle.hub_io.specs.Outside.{BeginsOnly};
+ghost use Rattle.cert_checker.specs.Held.{IsVerdictOnHeld};
 ghost use Rattle.cert_checker.specs.Shows.{verdict_of};
 ghost use Rattle.hub_words.specs.Requests.{AreSources, AsksListed};
 ghost use Rattle.hub_words.specs.Views.{source_of};
@@ -10,7 +11,7 @@ ghost use Rattle.hub_sources.specs.Sources.{LacksSource};
 ghost use Rattle.hub_sources.specs.Named.{IsFileOf};
 ghost use Rattle.hub_sources.specs.Shelves.{FailsFor, StaysShelf};
 ghost use Rattle.hub_sources.specs.Halts.{Halts, IsOfSource};
-ghost use Rattle.hub_commands.specs.Judging.{IsNoFault, IsVerdictOn};
+ghost use Rattle.hub_commands.specs.Judging.{IsNoFault};
 ghost use Rattle.hub_sources.specs.Told.{LacksFile};
 
 use cert_checker::{Ending, NoEnding, check_held};
@@ -47,7 +48,7 @@ fn check_file<S: Shelf>(
     certificate: &str,
     shelf: &mut S,
 ) -> Result<Ending, Halt>
-    ensures judged { IfOk result (λ e. IsVerdictOn instance.now (S.held shelf.old) certificate.now (verdict_of e)) }
+    ensures judged { IfOk result (λ e. IsVerdictOnHeld instance.now (S.held shelf.old) certificate.now (verdict_of e)) }
     ensures halted { IfErr result (Halts IsNoFault
         (FailsFor S.held S.faults S.sound shelf.old shelf.new (LacksFile certificate.now))) }
     ensures stays { StaysShelf S.held S.faults S.sound shelf.old shelf.new }

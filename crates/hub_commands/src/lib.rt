@@ -10,6 +10,7 @@
 mod checking;
 mod closing;
 mod preparing;
+mod reading;
 mod reporting;
 mod searching;
 mod solving;
@@ -17,7 +18,7 @@ mod status;
 mod verdict_lines;
 
 pub use checking::check;
-pub use reporting::{Reported, report};
+pub use reporting::report;
 pub use searching::demonstrate;
 pub use solving::{Solved, solve};
 pub use status::Status;

@@ -1,9 +1,9 @@
 -- What a run that has written tells.
-use Rattle.std.proofs.Common.{◌≡◌, ℕ, List, Option, ◌⊎◌, ⊎_elim, sym, subst}
+use Rattle.std.proofs.Common.{ℕ, List, Option, ◌⊎◌, ⊎_elim}
 use Rattle.hub_io.specs.Outside.{Files, Rose}
 use Rattle.hub_words.specs.Requests.{Request}
 use Rattle.hub_commands.specs.declared.status.Status.{Status}
-use Rattle.hub_top.specs.Outcomes.{Outcome, memory, MayComeTo, ShelfFails, Quiet, Written}
+use Rattle.hub_top.specs.Outcomes.{Outcome, memory, MayComeTo, ShelfFails, Quiet, Written, WrittenOrLacked}
 use Rattle.hub_top.specs.Meanings.{Means}
 use Rattle.hub_top.specs.Completeness.{Completeness}
 use Rattle.hub_top.specs.Headline.{Headline}
@@ -39,9 +39,6 @@ module _ {S O E : Type 0} (held : S → Option Files) (faults : S → ℕ) (soun
       }
 
   -- a run that had the outcome it settled on, or ran out of memory
-  pub ran : (settled came : Outcome) → MayComeTo asked (held old) (ShelfFails held faults sound old new) settled
-      → (came ≡ settled) ⊎ (came ≡ memory)
-      → Written out_taken out_faults err_taken err_faults out_old out_new err_old err_new status came → Told
-  ran settled came may is written =
-      let P : Outcome → Type 0 = MayComeTo asked (held old) (ShelfFails held faults sound old new) in
-      told_by came (⊎_elim (λ same. subst P (sym same) may) (λ wanting. subst P (sym wanting) tt) is) written
+  pub ran : (settled : Outcome) → MayComeTo asked (held old) (ShelfFails held faults sound old new) settled
+      → WrittenOrLacked out_taken out_faults err_taken err_faults out_old out_new err_old err_new status settled → Told
+  ran settled may written = ⊎_elim (told_by settled may) (told_by memory tt) written

@@ -96,3 +96,9 @@ pub data Written {O E : Type 0} (out_taken : O → Option (List ℕ)) (out_fault
       → Puts err_taken err_faults err_old err_new (Err failed) (err_text outcome)
       → status ≡ Write
       → Written out_taken out_faults err_taken err_faults out_old out_new err_old err_new status outcome
+
+-- this outcome was written, or that memory ran out
+abbrev pub WrittenOrLacked : {O E : Type 0} → (O → Option (List ℕ)) → (O → ℕ) → (E → Option (List ℕ)) → (E → ℕ) → O → O → E → E → Status → Outcome → Type 0
+WrittenOrLacked out_taken out_faults err_taken err_faults out_old out_new err_old err_new status outcome =
+    Written out_taken out_faults err_taken err_faults out_old out_new err_old err_new status outcome
+    ⊎ Written out_taken out_faults err_taken err_faults out_old out_new err_old err_new status memory

@@ -6,7 +6,6 @@ use Rattle.hub_words.specs.Requests.{IsSearch}
 use Rattle.hub_words.specs.Views.{search_seen}
 use Rattle.cut_pool.specs.Findings.{IsProved}
 use Rattle.cert_scan.specs.Versions.{version_number}
-use Rattle.dual_lender.specs.Lenders.{IsLenderFor}
 use Rattle.proof_text.specs.Texts.{found_text}
 use Rattle.network_report.specs.Texts.{report_text}
 use Rattle.hub_make.specs.DemoTexts.{demo_text}
@@ -18,14 +17,12 @@ use Rattle.hub_top.specs.declared.answers.Answer.{Answer}
 use Rattle.hub_top.specs.declared.answers.Answer.TheVariants.{Judged, Reported, Made, Demonstrated}
 use Rattle.hub_top.specs.declared.outcomes.Settled.{Settled}
 use Rattle.hub_top.specs.declared.outcomes.Settled.TheVariants.{Answered, Found, NoNetwork, Usage, Halted}
-use Rattle.hub_top.specs.declared.outcomes.Intended.{Intended}
 use Rattle.hub_commands.specs.Lines.{verdict_text}
 use Rattle.hub_commands.specs.VerdictStatuses.{verdict_status}
 use Rattle.hub_top.specs.Outcomes.{Outcome, answered, usage, faulty, no_network, memory, read}
 use Rattle.hub_sources.specs.Blames.{blame_of}
 use Rattle.hub_commands.specs.Statuses.{finding_status}
 use Rattle.hub_sources.specs.declared.halts.Halt.TheVariants as halts
-use Rattle.hub_top.specs.declared.outcomes.Intended.TheVariants as intended
 
 -- why there is no answer
 abbrev pub halted : Halt → Outcome
@@ -75,21 +72,3 @@ CanBeWritten (Halted halt) = Unit {0}
 abbrev pub ended : Result Settled Halt → Outcome
 ended (Ok settled) = came_to settled
 ended (Err halt) = halted halt
-
--- the outcome of a run
-abbrev pub outcome : Intended → Outcome
-outcome (intended.Answered answer) = answered (answer_status answer.now) (answer_text answer.now)
-outcome (intended.Found instance found search lender) =
-    answered (finding_status found.now) (found_text (version_number search.version) instance.now found.now)
-outcome (intended.NoNetwork i j) = no_network (i, j)
-outcome intended.Usage = usage
-outcome (intended.Halted halt) = halted halt
-
--- what was found is proved of the instance, and the workspace for duals is for it
-abbrev pub IsReady : Intended → Type 0
-IsReady (intended.Answered answer) = IsWritable answer.now
-IsReady (intended.Found instance found search lender) =
-    IsProved instance.now found.now × IsLenderFor instance.now lender × IsSearch (search_seen search)
-IsReady (intended.NoNetwork i j) = Unit {0}
-IsReady intended.Usage = Unit {0}
-IsReady (intended.Halted halt) = Unit {0}

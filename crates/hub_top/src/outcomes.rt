@@ -1,6 +1,6 @@
 //! The outcome of a run, and its output.
 
-ghost use Rattle.std.specs.Prelude.{◌≡◌, ◌⊎◌};
+ghost use Rattle.std.specs.Prelude.{◌≡◌};
 ghost use Rattle.hub_io.specs.Outside.{Puts};
 ghost use Rattle.cert_scan.specs.Versions.{version_number};
 ghost use Rattle.cut_pool.specs.Findings.{IsProved};
@@ -9,8 +9,8 @@ ghost use Rattle.proof_text.specs.Texts.{found_text};
 ghost use Rattle.hub_words.specs.Requests.{IsSearch};
 ghost use Rattle.hub_words.specs.Views.{search_seen};
 ghost use Rattle.hub_top.specs.Texts.{no_network_text, usage_text};
-ghost use Rattle.hub_top.specs.Outcomes.{IsTold, Written, err_text, memory, status_of};
-ghost use Rattle.hub_top.specs.Views.{CanBeWritten, IsReady, IsWritable, answer_status, answer_text, came_to, halted, outcome};
+ghost use Rattle.hub_top.specs.Outcomes.{IsTold, WrittenOrLacked, err_text, status_of};
+ghost use Rattle.hub_top.specs.Views.{CanBeWritten, IsWritable, answer_status, answer_text, came_to, halted};
 ghost use Rattle.hub_commands.specs.Statuses.{finding_status};
 ghost use Rattle.hub_commands.specs.declared.status.Status.TheVariants.{Lacking, Usage};
 
@@ -27,7 +27,7 @@ use proof_text::{Finding, Workers, write_found};
 use std::alloc::Global;
 use std::thread::Threads;
 
-/// The outcome of a run before the memory for its output is reserved.
+/// The outcome of a run before it is written.
 #[derive(Drop)]
 pub enum Settled {
     /// The answer of a command.
@@ -42,59 +42,30 @@ pub enum Settled {
     Halted(Halt),
 }
 
-/// The outcome of a run, with the memory for its output.
-#[derive(Drop)]
-pub enum Intended<'a> {
-    /// The answer of a command.
-    Answered(&'a Answer),
-    /// The finding of this search for the instance, with the workspace that makes the duals of its certificate.
-    Found(&'a Instance, &'a Found, Search, DualLender<'a>),
-    /// All candidates together are infeasible for the commodity from `i` to `j`.
-    NoNetwork { i: u32, j: u32 },
-    /// The arguments are no command.
-    Usage,
-    /// The command has no answer.
-    Halted(Halt),
-}
-
-/// The outcome with the memory for its output. Where that memory runs out, the outcome is that memory ran out.
-pub fn intend<'a>(alloc: Global, what: &'a Settled) -> Intended<'a>
-    requires { CanBeWritten what.now }
-    ensures outcome { (outcome result ≡ came_to what.now) ⊎ (outcome result ≡ memory) }
-    ensures ready { IsReady result }
-{
-    match what {
-        Settled::Answered(answer) => Intended::Answered(answer),
-        Settled::Found(instance, found, search) => match DualLender::new(alloc, instance) {
-            Ok(lender) => Intended::Found(instance, found, *search, lender),
-            Err(_) => Intended::Halted(Halt::Memory),
-        },
-        Settled::NoNetwork { i, j } => Intended::NoNetwork { i: *i, j: *j },
-        Settled::Usage => Intended::Usage,
-        Settled::Halted(halt) => Intended::Halted(*halt),
-    }
-}
-
-/// Writes the outcome of a run: an answer to `out`, or the reason why there is none to `err`. It allocates only for the
-/// workers that make a certificate's text, and does without them where memory runs out.
+/// Writes the outcome of a run: an answer to `out`, or the reason why there is none to `err`. For a certificate it first
+/// reserves the memory that makes the duals. Where that memory runs out, the outcome is that memory ran out. Besides, it
+/// allocates only for the workers that make a certificate's text, and does without them where memory runs out.
 pub fn write<R: Threads + Sync, O: Sink, E: Sink>(
     rt: &R,
     alloc: Global,
-    intended: Intended,
+    settled: &Settled,
     out: &mut O,
     err: &mut E,
 ) -> Status
-    requires { IsReady intended }
-    ensures { Written O.taken O.faults E.taken E.faults out.old out.new err.old err.new result (outcome intended.entry) }
+    requires { CanBeWritten settled.now }
+    ensures { WrittenOrLacked O.taken O.faults E.taken E.faults out.old out.new err.old err.new result (came_to settled.now) }
 {
-    match intended {
-        Intended::Answered(answer) => write_answer(answer, out),
-        Intended::Found(instance, found, search, mut lender) => {
-            write_certificate(rt, alloc, instance, found, search, &mut lender, out)
-        }
-        Intended::NoNetwork { i, j } => write_no_network(i, j, err),
-        Intended::Usage => write_usage(err),
-        Intended::Halted(halt) => write_halt(&halt, err),
+    match settled {
+        Settled::Answered(answer) => write_answer(answer, out),
+        Settled::Found(instance, found, search) => match DualLender::new(alloc, instance) {
+            Ok(mut lender) => {
+                write_certificate(rt, alloc, instance, found, *search, &mut lender, out)
+            }
+            Err(_) => write_halt(&Halt::Memory, err),
+        },
+        Settled::NoNetwork { i, j } => write_no_network(*i, *j, err),
+        Settled::Usage => write_usage(err),
+        Settled::Halted(halt) => write_halt(halt, err),
     }
 }
 

@@ -14,8 +14,8 @@ ghost use Rattle.hub_top.specs.Headline.{Headline};
 
 use crate::Status;
 use crate::answers::Answer;
-use crate::outcomes::{Settled, intend, write};
-use hub_commands::{Reported, Solved, check, demonstrate, report, solve};
+use crate::outcomes::{Settled, write};
+use hub_commands::{Solved, check, demonstrate, report, solve};
 use hub_io::{Gate, Shelf, Sink};
 use hub_make::instance_text;
 use hub_sources::Halt;
@@ -69,8 +69,7 @@ pub fn run<R: Threads + Sync, S: Shelf, O: Sink, E: Sink, G: Gate>(
     ensures untouched { NameNone (spec.asked (texts words.now)) → shelf.new ≡ shelf.old }
 {
     let settled = settle(rt, alloc, words, shelf, gate);
-    let intended = intend(alloc, &settled);
-    write(rt, alloc, intended, out, err)
+    write(rt, alloc, &settled, out, err)
 }
 
 /// The outcome of arguments and files. It writes nothing.
@@ -130,10 +129,10 @@ fn answer<R: Threads + Sync, S: Shelf, G: Gate>(
         }
         Command::Report(source, certificate) => {
             match report(rt, alloc, source, certificate, shelf)? {
-                Reported::Report(instance, certificate) => {
+                Ok((instance, certificate)) => {
                     Ok(Settled::Answered(Answer::Reported(instance, certificate)))
                 }
-                Reported::Refused(ending) => Ok(Settled::Answered(Answer::Judged(ending))),
+                Err(ending) => Ok(Settled::Answered(Answer::Judged(ending))),
             }
         }
         Command::Make(making) => {

@@ -1,7 +1,8 @@
 //! Checks of texts.
 
 use super::streams::ended;
-use cert_checker::{Ending, check_text};
+use cert_checker::{Ending, Tested, read_tested};
+use cert_format::Certificate;
 use hub_model::Instance;
 use std::alloc::Global;
 use std::io;
@@ -14,11 +15,26 @@ pub fn check<R: Print + Threads + Sync>(
     instance: &Instance,
     text: &str,
 ) -> io::Result<()> {
-    let ending = check_text(rt, alloc, instance, text.as_bytes())?;
-    tell(rt, "  whole", &ending)?;
+    let read = read_tested(rt, alloc, instance, Tested::Whole, text.as_bytes())?;
+    tell(rt, "  whole", &ending_of(&read))?;
     let pieces: Vec<&[u8]> = text.as_bytes().chunks(7).collect(alloc)?;
     let ending = ended(alloc, instance, &pieces)?;
     tell(rt, "  in pieces", &ending)
+}
+
+// How a check ends that was read so.
+fn ending_of(read: &Result<Certificate, Ending>) -> Ending {
+    match read {
+        Ok(certificate) => {
+            let bound = certificate.bound();
+            let cost = certificate.cost();
+            if bound == cost {
+                return Ending::Optimal { cost };
+            }
+            Ending::Bounds { bound, cost }
+        }
+        Err(ending) => *ending,
+    }
 }
 
 /// Prints the ending behind a word.
@@ -41,8 +57,8 @@ fn costs(ending: &Ending) -> Option<(&'static str, u128, u128)> {
     }
 }
 
-// What is found, and in which line.
-fn place(ending: &Ending) -> (&'static str, u64) {
+/// What is found, and in which line.
+pub fn place(ending: &Ending) -> (&'static str, u64) {
     match ending {
         Ending::No { kind, line } => (kind.name(), *line),
         Ending::BadLine { line } => ("bad", *line),

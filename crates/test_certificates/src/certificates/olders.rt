@@ -1,7 +1,8 @@
 //! Older certificates, from whose cuts or values a search may begin.
 
+use super::checks::place;
 use super::names::text_in;
-use cert_checker::{Older, check_cuts, read_older, read_sized};
+use cert_checker::{Ending, Tested, check_cuts, read_tested};
 use cert_format::{Certificate, read_cert};
 use hub_model::Instance;
 use std::alloc::Global;
@@ -20,12 +21,12 @@ pub fn older<R: Print + Threads + Sync>(
     tell(
         rt,
         "  by cuts",
-        &read_older(rt, alloc, instance, text.as_bytes())?,
+        &read_tested(rt, alloc, instance, Tested::Cuts, text.as_bytes())?,
     )?;
     tell(
         rt,
         "  by size",
-        &read_sized(alloc, instance, text.as_bytes())?,
+        &read_tested(rt, alloc, instance, Tested::Size, text.as_bytes())?,
     )?;
     match read_cert(alloc, text.as_bytes()) {
         Ok(certificate) => tried(rt, alloc, instance, &certificate),
@@ -48,18 +49,17 @@ fn tried<R: Print + Threads + Sync>(
     }
 }
 
-fn tell(rt: &impl Print, of: &str, older: &Older) -> io::Result<()> {
-    let (word, line) = match older {
-        Older::Serves(certificate) => {
+fn tell(rt: &impl Print, of: &str, older: &Result<Certificate, Ending>) -> io::Result<()> {
+    match older {
+        Ok(certificate) => {
             let cuts = certificate.cuts().len();
-            return println!(rt; "{of}: serves, with {cuts} cuts");
+            println!(rt; "{of}: serves, with {cuts} cuts")
         }
-        Older::ServesNot { kind, line } => (kind.name(), *line),
-        Older::BadLine { line } => ("bad", *line),
-        Older::Ended { line } => ("ended", *line),
-        Older::TooLong => ("too long", 0),
-    };
-    println!(rt; "{of}: {word} in line {line}")
+        Err(ending) => {
+            let (word, line) = place(ending);
+            println!(rt; "{of}: {word} in line {line}")
+        }
+    }
 }
 
 /// The dual values of the candidates from the cuts of the text, in a unit.

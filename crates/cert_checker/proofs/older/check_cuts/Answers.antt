@@ -13,8 +13,7 @@ use Rattle.cert_format.specs.Parts.{HasProofs}
 use Rattle.cert_format.proofs.Putting.{proved_marks, proved_at}
 use Rattle.cert_conditions.specs.declared.kinds.Kind as code
 use Rattle.cert_checker.specs.Older.{cut_lines, CutFails}
-use Rattle.cert_checker.proofs.OlderChecks.{none_fails}
-use Rattle.cert_checker.proofs.OlderCuts.{IsNext, none_before, one_more_before, next_fails, size_fails, all_before}
+use Rattle.cert_checker.proofs.OlderCuts.{IsNext, none_before, one_more_before, next_fails, size_fails, all_before, none_fails}
 use Rattle.cert_checker.proofs.older.check_cuts.Goals as goal
 use Rattle.cert_checker.proofs.older.check_cuts.Given.{Over}
 use Rattle.cert_checker.proofs.older.check_cuts.Goals.{After-index-marks-x}

@@ -1,12 +1,11 @@
-use Rattle.hub_top.specs.Views.{came_to, outcome}
+use Rattle.hub_top.specs.Views.{came_to}
 use Rattle.hub_top.proofs.Runs.{ran}
 use Rattle.hub_top.proofs.top.run.Goals as goal
 
 pub returns : goal.returns
 returns g c =
     let told = ran g.S.Shelf.held g.S.Shelf.faults g.S.Shelf.sound c.args.shelf.now c.settle-settled.new.shelf _ _ _ _ _ _ _ _ _ _
-    (came_to c.settle-settled.result) (outcome c.intend-intended.result) c.settle-settled.ensures.may c.intend-intended.ensures.outcome
-    c.write.ensures in
+    (came_to c.settle-settled.result) c.settle-settled.ensures.may c.write.ensures in
     record {
       ends = told.ends;
       means = told.means;

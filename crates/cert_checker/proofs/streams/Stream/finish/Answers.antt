@@ -1,7 +1,7 @@
 use Rattle.std.proofs.Common.{subst}
 use Rattle.cert_spec.specs.Grammar.{IsTextFault}
 use Rattle.cert_scan.specs.Scanned.{fault_of, Tells}
-use Rattle.cert_checker.proofs.Ends.{are_come, is_read, why_ends, marks_end}
+use Rattle.cert_checker.proofs.Ends.{are_come, is_read, why_ends}
 use Rattle.cert_checker.proofs.Judged.{ending_shown}
 use Rattle.cert_checker.proofs.streams.Stream.finish.Goals as goal
 
@@ -27,7 +27,7 @@ returns-in-None-clause-proves c = λ bytes h.
     let a = are_come bytes s c.if-self.false h in
     let r = is_read bytes s c.finish.result a c.in-None.is (c.finish.ensures.tells bytes a.given a.come.scanned a.few)
     (λ k spells. c.finish.ensures.items bytes a.given k a.come.scanned spells) in
-    ending_shown s.checks bytes r.certificate c.ending_of.result a.short r.spelled r.taken (c.ending_of.ensures r.certificate r.spelled.in_range r.taken)
+    (ending_shown s.checks bytes r.certificate c.ending_of.result a.short r.spelled r.taken (c.ending_of.ensures r.certificate r.spelled.in_range r.taken)).0
 
 pub returns-in-None-clause-marked : goal.returns-in-None-clause-marked
 returns-in-None-clause-marked c = λ bytes h.
@@ -35,7 +35,7 @@ returns-in-None-clause-marked c = λ bytes h.
     let a = are_come bytes s c.if-self.false h in
     let r = is_read bytes s c.finish.result a c.in-None.is (c.finish.ensures.tells bytes a.given a.come.scanned a.few)
     (λ k spells. c.finish.ensures.items bytes a.given k a.come.scanned spells) in
-    marks_end s.checks bytes r.certificate c.ending_of.result a.short r.spelled r.taken (c.ending_of.ensures r.certificate r.spelled.in_range r.taken)
+    (ending_shown s.checks bytes r.certificate c.ending_of.result a.short r.spelled r.taken (c.ending_of.ensures r.certificate r.spelled.in_range r.taken)).1
 
 pub returns-in-Some-BadLine-clause-why : goal.returns-in-Some-BadLine-clause-why
 returns-in-Some-BadLine-clause-why c = λ bytes h.
