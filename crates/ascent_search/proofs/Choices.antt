@@ -21,10 +21,6 @@ use Rattle.ascent_search.proofs.KeptSums.{kept_are_whole}
 use Rattle.ascent_search.proofs.SingleBounds.{bare_not_below}
 use Rattle.ascent_search.proofs.Steps.{left_below}
 
--- the bound by one cut of a list is the bound by the cut alone
-pub on_one : (p : Problem) (cuts : List Cut) (c : ℕ) (b : Branching) → leaf_bound p cuts denominator (whole_on c) b ≡ cut_bound p (cut_at cuts c) b
-on_one p cuts c b = refl
-
 pub on_none : (p : Problem) (cuts : List Cut) (b : Branching) → leaf_bound p cuts denominator [] b ≡ leaf_bound p [] denominator [] b
 on_none p cuts b = refl
 

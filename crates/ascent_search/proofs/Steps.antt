@@ -31,10 +31,6 @@ use Rattle.ascent_search.proofs.BestBounds.{last_sound, walk_by, says_both, keep
 use Rattle.ascent_search.proofs.Gaps.{fallen_within}
 use Rattle.ascent_search.proofs.KeptSums.{kept_more}
 
--- what is led to stays so
-abbrev pub StaysTo : Problem → Progress → Progress → Type 0
-StaysTo p before after = (first last : List Branching) → WalksTo p before first last → WalksTo p after first last
-
 -- ---- one line more
 
 -- this line was added, and so many nodes are made

@@ -1,5 +1,5 @@
 -- How the check of all bytes ends.
-use Rattle.std.proofs.Common.{◌≡◌, ℕ, ◌<◌, ◌≤◌, true, false, List, length, Option, None, sym, subst, ◌∙◌, arith}
+use Rattle.std.proofs.Common.{◌≡◌, ℕ, ◌<◌, ◌≤◌, false, List, length, Option, None, sym, subst, ◌∙◌, arith}
 use Rattle.hub_spec.specs.Problem.{Problem, IsProblem}
 use Rattle.core_spec.proofs.Undominated.{core_is_undominated}
 use Rattle.cert_spec.specs.Stated.{Stated}

@@ -11,7 +11,6 @@ use Rattle.hub_spec.specs.Cuts.{Prices, Cut}
 use Rattle.hub_spec.specs.Trees.{preorder}
 use Rattle.core_spec.specs.CoreCuts.{Mark}
 use Rattle.core_spec.specs.MarkRanges.{IsMarkInRange}
-use Rattle.hub_spec.specs.Ranges.{IsCutInRange}
 use Rattle.hub_spec.proofs.Commodities.{length_commodities, commodity_at}
 use Rattle.cert_spec.specs.Stated.{Stated, cuts_of, IsStatedInRange}
 use Rattle.cert_spec.specs.Lines.{Item, says_version, says_size, says_cost, says_bound, says_hubs, says_route, says_cuts, says_cut, says_nodes, says_tree, says_end, keyword, numbers}
@@ -81,14 +80,6 @@ whole_cut_text v n x cut part duals = λ i. line_bytes (says_cut x (part_said v 
 
 pub cut_texts : (v n : ℕ) (cuts : List (ℕ × (Cut × Option Mark))) → flat_map (cut_text v n) cuts ≡ flat_map line_bytes (flat_map (cut_items v n) cuts)
 cut_texts v n cuts = texts_joined (cut_items v n) cuts
-
--- each cut has a dual for each commodity
-pub whole_cuts : (n : ℕ) (k : Stated) (cuts : List Cut) → IsStatedInRange k → cuts ≡ k.proof.cuts → n ≡ k.proof.size → All (λ c. length c.duals ≡ n * n) cuts
-whole_cuts n k cuts h e s =
-    let m = k.proof.size in
-    let each : All (λ (c : Cut). length c.duals ≡ m * m) k.proof.cuts =
-    All-weaker (IsCutInRange m) (λ (c : Cut). length c.duals ≡ m * m) (λ c t. t.one_for_each) k.proof.cuts h.proof.cuts in
-    subst (λ m. All (λ (c : Cut). length c.duals ≡ m * m) cuts) (sym s) (subst (All (λ (c : Cut). length c.duals ≡ m * m)) (sym e) each)
 
 -- so it is with each of them
 pub whole_at : (n : ℕ) (cuts : List Cut) (x : ℕ) (cut : Cut) → x < length cuts → cut ≡ get_or cuts x cut

@@ -1,27 +1,19 @@
 -- How the reading of a text begins, and how it ends.
-use Rattle.std.proofs.Common.{◌≡◌, ℕ, List, [], Option, Some, None, IfSome, refl, ap, subst, ◌∙◌}
+use Rattle.std.proofs.Common.{◌≡◌, ℕ, List, [], Option, Some, None, IfSome, ap, subst, ◌∙◌}
 use Rattle.cert_spec.specs.Stated.{Stated, IsStatedInRange}
 use Rattle.cert_spec.specs.Text.{Spells}
-use Rattle.cert_spec.specs.Grammar.{want_version, IsTextFault}
+use Rattle.cert_spec.specs.Grammar.{IsTextFault}
 use Rattle.cert_scan.specs.Parts.{items_of}
-use Rattle.cert_scan.specs.Scanned.{HasScanned, fault_of, Tells}
+use Rattle.cert_scan.specs.Scanned.{fault_of, Tells}
 use Rattle.cert_scan.specs.declared.items.Fault.{Fault}
 use Rattle.cert_scan.specs.declared.items.Fault.TheVariants.{BadLine, Ended}
 use Rattle.cert_scan.specs.declared.scanner.Scan.{Scan}
 use Rattle.cert_format.specs.Faults.{ToldFault, told_of}
 use Rattle.cert_format.specs.Gathered.{Standing, at_start, taken_all, all_gathered}
-use Rattle.cert_format.specs.Gatherings.{gathered_of, standing_of}
+use Rattle.cert_format.specs.Gatherings.{gathered_of}
 use Rattle.cert_format.specs.Readings.{HasRead}
 use Rattle.cert_format.specs.declared.gathering.Gathering.{Gathering}
 use Rattle.cert_format.proofs.Collecting.{certificate_gathered}
-
-pub read_start : (scan : Scan) (gathering : Gathering) → HasScanned [] [] scan → standing_of gathering ≡ at_start → HasRead [] scan gathering
-read_start scan gathering scanned e = record {
-  given = [];
-  scanned = scanned;
-  in_order = record { lines = []; stage = want_version; more = []; lead = refl; are = refl; begun = refl };
-  gathered = e;
-}
 
 told_fault : (bytes : List ℕ) (f : Fault) → IsTextFault bytes (fault_of f) → ToldFault bytes (told_of f)
 told_fault bytes (BadLine line) h = h

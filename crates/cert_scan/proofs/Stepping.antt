@@ -1,5 +1,5 @@
 -- The clauses of a scan's calls.
-use Rattle.std.proofs.Common.{◌≡◌, ℕ, ◌+◌, ◌-◌, ◌<◌, ◌≤◌, Bool, true, false, ◌&&◌, List, [], ◌∷◌, ◌++◌, length, take, drop, get_or, Option, Some, None, nat_le, ◌⊎◌, inl, inr, refl, sym, ap, ◌∙◌, subst, append-nil, arith, zero, suc}
+use Rattle.std.proofs.Common.{◌≡◌, ℕ, ◌+◌, ◌-◌, ◌<◌, ◌≤◌, Bool, true, false, ◌&&◌, List, [], ◌∷◌, ◌++◌, length, take, drop, get_or, Option, Some, None, nat_le, ◌⊎◌, refl, sym, ap, ◌∙◌, subst, append-nil, arith, zero, suc}
 use Rattle.std.specs.Prelude.{option_to_list, is_some, unwrap_or, slice_index, ◌==◌}
 use Rattle.memchr.specs.Find.{IsFirstByte, is_byte}
 use Rattle.std.proofs.lemmas.List.{take_more, take_all, length-drop}
@@ -7,14 +7,13 @@ use Rattle.std.proofs.lemmas.Bool.{cond-true, and_from, le-leb}
 use Rattle.cert_scan.specs.Moves.{move, moved_by, with_digit_of, refusal, spelled_by}
 use Rattle.cert_scan.specs.Scans.{put, new_scan, given_by, stepped, scanned, given_all}
 use Rattle.cert_scan.specs.Given.{IsGiven}
-use Rattle.cert_scan.specs.Scanned.{HasScanned, IsLost}
+use Rattle.cert_scan.specs.Scanned.{HasScanned}
 use Rattle.cert_scan.specs.Runs.{SpellsOn, HasNoLineEnd, Takes, Runs}
 use Rattle.cert_scan.proofs.Goes.{nil_front}
-use Rattle.cert_scan.proofs.ScanBytes.{scanned-append, given_all-append, quiet_step, quiet_gives, quiet_scanned, quiet_given}
+use Rattle.cert_scan.proofs.ScanBytes.{scanned-append, given_all-append, quiet_scanned, quiet_given}
 use Rattle.cert_scan.specs.declared.stages.Shape.{Shape}
 use Rattle.cert_scan.proofs.Tracks.{scanned_given}
 use Rattle.cert_scan.specs.declared.items.Item.{Item}
-use Rattle.cert_scan.specs.declared.bytes.Position.{Position}
 use Rattle.cert_scan.specs.declared.bytes.Position.TheVariants.{Number, Spoiled, Failed}
 use Rattle.cert_scan.specs.declared.places.Place.{Place}
 use Rattle.cert_scan.specs.declared.scanner.Scan.{Scan}
@@ -36,24 +35,6 @@ pub step_given : (old new : Scan) (byte : ℕ) (item : Option Item) → item ≡
     → (bytes : List ℕ) (given : List Item) → HasScanned bytes given old → IsGiven (given ++ option_to_list item)
 step_given old new byte item gives after bytes given h =
     scanned_given (bytes ++ byte ∷ []) (given ++ option_to_list item) new (scanned_step old new byte item gives after bytes given h)
-
--- nothing comes where a line was lost
-lost_move : (sh : Shape) (byte : ℕ) (position : Position) → (position ≡ Spoiled) ⊎ (position ≡ Failed)
-    → (last : Bool) × (moved_by sh position byte ≡ refusal last)
-lost_move sh byte position (inl e) = (_, ap (λ p. moved_by sh p byte) e)
-lost_move sh byte position (inr e) = (true, ap (λ p. moved_by sh p byte) e)
-
--- where a refusal leads
-refusal_at : (last : Bool) → (position : Position) × (refusal last ≡ move position None) × ((position ≡ Spoiled) ⊎ (position ≡ Failed))
-refusal_at true = (Failed, refl, inr refl)
-refusal_at false = (Spoiled, refl, inl refl)
-
-pub step_lost : (old new : Scan) (byte : ℕ) (item : Option Item) → item ≡ given_by old byte → new ≡ stepped old byte → IsLost old → (item ≡ None) × IsLost new
-step_lost old new byte item gives after lost =
-    let next = lost_move old.shape byte old.position lost in
-    let there = refusal_at next.0 in
-    let e : moved_by old.shape old.position byte ≡ move there.0 None = next.1 ∙ there.1 in
-    (gives ∙ quiet_gives old byte there.0 e, subst IsLost (sym (after ∙ quiet_step old byte there.0 e)) there.2)
 
 -- ---- digits
 

@@ -1,6 +1,5 @@
 -- The stage of the grammar at which a line stands: after the dual that is held, another dual of its origin must not repeat it.
 use Rattle.std.proofs.Common.{◌≡◌, ◌≢◌, ℕ, ◌+◌, ◌-◌, ◌*◌, ◌%◌, ◌<◌, ◌≤◌, true, false, not, ◌&&◌, List, length, map, All, Option, Some, None, nat_eq, ◌⊎◌, inl, inr, refl, sym, ap, ◌∙◌, subst, arith}
-use Rattle.std.specs.Prelude.{if◌then◌else◌}
 use Rattle.std.proofs.lemmas.Bool.{cond_both, and_parts, and_from, not-true, not_from_false, eq-eqb, false≢true}
 use Rattle.std.proofs.lemmas.Option.{same_Some, none-some}
 use Rattle.std.proofs.lemmas.List.{length-map}
@@ -184,10 +183,6 @@ wanted_stage sh so_far stage h = h
 pub wanted_begun : (sh : Shape) (so_far : DualSoFar) (stage : Stage) (given : List Item) → IsBegun (stage_at sh stage) given → IsBegun (wanted_at sh so_far stage) given
 wanted_begun sh so_far (Dual d) given h = h
 wanted_begun sh so_far stage given h = h
-
-pub begun_wanted : (sh : Shape) (so_far : DualSoFar) (stage : Stage) (given : List Item) → IsBegun (wanted_at sh so_far stage) given → IsBegun (stage_at sh stage) given
-begun_wanted sh so_far (Dual d) given h = h
-begun_wanted sh so_far stage given h = h
 
 -- ---- from line to line
 

@@ -5,12 +5,6 @@ use Rattle.cert_scan.specs.Versions.{version_number, version_of}
 use Rattle.cert_scan.specs.declared.items.Version.{Version}
 use Rattle.cert_scan.specs.declared.items.Version.TheVariants.{First, Second, Third}
 
--- each version is one of a text
-pub each_is_version : (version : Version) → IsVersion (version_number version)
-each_is_version First = inl refl
-each_is_version Second = inr (inl refl)
-each_is_version Third = inr (inr refl)
-
 -- a version has its number
 pub version_back : (version : Version) → version_of (version_number version) ≡ version
 version_back First = refl

@@ -1,5 +1,5 @@
 -- Duals that are found ahead: none at first; one is taken, and one is put at the place of its commodity.
-use Rattle.std.proofs.Common.{◌≡◌, ℕ, ◌+◌, ◌*◌, ◌<◌, Option, None, IfSome, List, length, get_or, set, All, inl, inr, sym, ◌∙◌, subst, arith}
+use Rattle.std.proofs.Common.{◌≡◌, ℕ, ◌+◌, ◌*◌, ◌<◌, Option, None, IfSome, List, length, get_or, set, inl, inr, sym, ◌∙◌, subst, arith}
 use Rattle.std.proofs.lemmas.Bool.{cases_eq}
 use Rattle.std.proofs.lemmas.List.{length-set, get_or-set_same, get_or-set_other}
 use Rattle.hub_spec.specs.Problem.{Problem, commodities}
@@ -10,13 +10,6 @@ use Rattle.core_cuts.specs.Readings.{FoundDual, IsFound}
 -- what stands at the place is found for its commodity
 abbrev IsFor : Problem → List ℕ → ℕ → Option FoundDual → Type 0
 IsFor p hubs t o = IfSome o (IsFound p hubs (get_or (commodities p.size) t (0, 0)))
-
-pub nothing_yet : (p : Problem) (hubs : List ℕ) (ahead : List (Option FoundDual)) → length ahead ≡ p.size * p.size → All (λ o. o ≡ None) ahead
-    → AreAhead p hubs ahead
-nothing_yet p hubs ahead long none = record {
-  places = long;
-  found = λ t within. subst (IsFor p hubs t) (sym (none t None (omega (arith, long, within)))) tt;
-}
 
 pub one_ahead : (p : Problem) (hubs : List ℕ) (i j : ℕ) (ahead : List (Option FoundDual)) → i < p.size → j < p.size → AreAhead p hubs ahead
     → IfSome (get_or ahead (i * p.size + j) None) (IsFound p hubs (i, j))

@@ -9,9 +9,6 @@ use Rattle.core_cuts.specs.Readings.{FoundDual}
 use Rattle.core_cuts.specs.declared.ratios.Ratio.{Ratio}
 use Rattle.core_cuts.proofs.LeastReadings.{has_least}
 
-abbrev pub no_found : FoundDual
-no_found = record { part = 0; dual = record { a = 0; u = [] }; proof = record { turns = 0; scale = 0; ways = [] } }
-
 -- what holds of all that a list is mapped to
 pub mapped_all : {X Y : Type 0} (P : Y → Type 0) (f : X → Y) (xs : List X) → All P (map f xs) → All (λ x. P (f x)) xs
 mapped_all P f [] all = All-nil (λ x. P (f x))

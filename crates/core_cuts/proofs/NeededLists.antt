@@ -1,8 +1,8 @@
 -- The needed edges of a list of candidates, one candidate after another.
 use Rattle.std.proofs.Common.{◌≡◌, ℕ, ◌+◌, ◌-◌, ◌/◌, ◌<◌, ◌≤◌, true, false, cond, List, [], ◌∷◌, ◌++◌, length, map, filter, get_or, take, drop, ℤ, pos, sym, ap, ap₂, ◌∙◌, arith}
-use Rattle.std.proofs.lemmas.List.{drop_more, append_assoc, append-nil, get_or-map, length-map, length-drop, take_all, map-append, drop-map}
+use Rattle.std.proofs.lemmas.List.{append_assoc, append-nil, get_or-map, length-map, length-drop, take_all, map-append, drop-map}
 use Rattle.std.proofs.lemmas.Simd.{map-map}
-use Rattle.std.proofs.lemmas.List.Elements.{filter-append, filter_more}
+use Rattle.std.proofs.lemmas.List.Elements.{filter_more}
 use Rattle.hub_spec.specs.Problem.{Problem, flow}
 use Rattle.core_spec.specs.CoreCuts.{pair_cost}
 use Rattle.core_cuts.specs.CoreTables.{is_needed, pairs_of, edge_right}
@@ -11,24 +11,6 @@ use Rattle.core_cuts.specs.Ahead.{AreCosts}
 -- the needed edges of the candidates from this place on
 abbrev pub needed_from : Problem → ℕ × ℕ → ℕ → List (ℕ × ℕ)
 needed_from p c x = filter (is_needed p c) (pairs_of (drop x p.candidates))
-
--- those of one candidate, and the rest
-pub needed_next : (p : Problem) (c : ℕ × ℕ) (x : ℕ) → x < length p.candidates
-    → needed_from p c x
-    ≡ filter (is_needed p c) (map (λ m. (get_or p.candidates x 0, m)) (drop (x + 1) p.candidates)) ++ needed_from p c (x + 1)
-needed_next p c x within =
-    ap (λ ks. filter (is_needed p c) (pairs_of ks)) (drop_more p.candidates x 0 within)
-    ∙ filter-append (is_needed p c) (map (λ m. (get_or p.candidates x 0, m)) (drop (x + 1) p.candidates)) (pairs_of (drop (x + 1) p.candidates))
-
--- with those of one candidate more, the rest still makes all
-pub needed_added : (p : Problem) (c : ℕ × ℕ) (x : ℕ) (old new all : List (ℕ × ℕ)) → x < length p.candidates
-    → old ++ needed_from p c x ≡ all
-    → new ≡ old ++ filter (is_needed p c) (map (λ m. (get_or p.candidates x 0, m)) (drop (x + 1) p.candidates))
-    → new ++ needed_from p c (x + 1) ≡ all
-needed_added p c x old new all within before added =
-    let here = filter (is_needed p c) (map (λ m. (get_or p.candidates x 0, m)) (drop (x + 1) p.candidates)) in
-    ap (λ es. es ++ needed_from p c (x + 1)) added ∙ append_assoc old here (needed_from p c (x + 1))
-    ∙ ap (λ es. old ++ es) (sym (needed_next p c x within)) ∙ before
 
 -- ---- one candidate
 
@@ -62,10 +44,6 @@ needed_no p c k later i base old within is_none before =
     before
     ∙ ap (λ es. base ++ es)
     (sym (more_needed p c k later i within ∙ ap (λ b. first_needed p c k later i ++ cond b (e ∷ []) []) is_none ∙ append-nil (first_needed p c k later i)))
-
-pub all_needed : (p : Problem) (c : ℕ × ℕ) (k : ℕ) (later : List ℕ) (i : ℕ) → length later ≤ i → first_needed p c k later i ≡ filter (is_needed p c) (fan k later)
-all_needed p c k later i long =
-    ap (filter (is_needed p c)) (take_all i (fan k later) (omega (arith, long, length-map {B = ℕ × ℕ} later (λ m. (k, m)))))
 
 -- ---- what they cost by unit of flow
 

@@ -12,21 +12,6 @@ use Rattle.core_cuts.specs.declared.ratios.Ratio.{Ratio}
 abbrev none : Ratio
 none = record { right = 0; over = 1 }
 
--- a row whose basic column is no variable
-pub noted_beyond : (t : Table) (n : ℕ) (rs : List Ratio) → AreNoted t n rs → length rs ≤ get_or t.basis n 0 → AreNoted t (n + 1) rs
-noted_beyond t n rs noted past =
-    let before : (i : ℕ) → i < n + 1 → get_or t.basis i 0 < length rs → i < n =
-    (λ i l low. ⊎_elim
-    (λ (here : i ≡ n). (let column = ap (λ j. get_or t.basis j 0) here in absurd (omega (arith, column, past, low))))
-    (λ (other : i ≢ n). omega (arith, l, other))
-    (cases_eq i n)) in
-    record {
-      some = λ i d l low. noted.some i d (before i l low) low;
-      over = λ i d l low. noted.over i d (before i l low) low;
-      right = λ i d l low. noted.right i d (before i l low) low;
-      others = λ j d low away. noted.others j d low (λ i l e. away i (omega (arith, l)) e);
-    }
-
 -- a row that is one of a variable
 pub noted_more : (t : Table) (n : ℕ) (rs : List Ratio) (r : Ratio) → IsBasic t → n < length t.basis → AreNoted t n rs → get_or t.basis n 0 < length rs
     → 1 ≤ r.over → number (row_at t n) (get_or t.basis n 0) ≡ pos r.over → right_side (row_at t n) ≡ pos r.right

@@ -55,10 +55,6 @@ from_more p c k hubs x least unit result below so_far is lesser =
           (omega (arith, here, is));
     }
 
-pub from_all : (p : Problem) (c : ℕ × ℕ) (k : ℕ) (hubs : List ℕ) (x least : ℕ) → length hubs ≤ x → IsLeastFrom p c k (take x hubs) least
-    → IsLeastFrom p c k hubs least
-from_all p c k hubs x least long so_far = subst (λ (ks : List ℕ). IsLeastFrom p c k ks least) (take_all x hubs long) so_far
-
 -- ---- some first hubs
 
 -- by unit of flow it is the least cost by way of one of these hubs first and one of those last

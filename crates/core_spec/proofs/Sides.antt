@@ -1,6 +1,6 @@
 -- Twice the total less all loads, over the part, is greater for a cut that dominates another.
 -- This needs three candidates or more.
-use Rattle.std.proofs.Common.{◌≡◌, ℕ, suc, ◌+◌, ◌*◌, ◌<◌, ◌≤◌, not, slice_index, zero, List, [], ◌∷◌, length, filter, Contains, ⊎_elim, refl, ap, sym, ◌∙◌, subst, arith}
+use Rattle.std.proofs.Common.{◌≡◌, ℕ, ◌+◌, ◌*◌, ◌<◌, ◌≤◌, not, slice_index, List, [], ◌∷◌, length, filter, Contains, ⊎_elim, refl, ap, sym, ◌∙◌, subst, arith}
 use Rattle.std.specs.List.Sorted.{IsStrictlyIncreasing}
 use Rattle.std.proofs.lemmas.List.Elements.{All-filter, All-cons, All-nil}
 use Rattle.std.proofs.lemmas.List.Kept.{IsStrictlyIncreasing-filter}
@@ -62,10 +62,6 @@ more_at_all p x y set ok is_set none more =
 
 -- ---- all candidates: by the first two and the rest
 
-pair_ascends : (k m : ℕ) → k < m → (i : ℕ) → i + 1 < length (k ∷ m ∷ []) → slice_index (k ∷ m ∷ []) i < slice_index (k ∷ m ∷ []) (i + 1)
-pair_ascends k m less zero l = less
-pair_ascends k m less (suc i) l = absurd (omega arith)
-
 single_ascends : (k i : ℕ) → i + 1 < length (k ∷ []) → slice_index (k ∷ []) i < slice_index (k ∷ []) (i + 1)
 single_ascends k i l = absurd (omega arith)
 
@@ -74,14 +70,6 @@ single_set p k in_k = record {
   some_hub = omega arith;
   ascend = single_ascends k;
   are_candidates = All-cons (Contains p.candidates) k [] in_k (All-nil (Contains p.candidates));
-}
-
-pair_set : (p : Problem) (k m : ℕ) → Contains p.candidates k → Contains p.candidates m → k < m → IsCandidateSet p (k ∷ m ∷ [])
-pair_set p k m in_k in_m less = record {
-  some_hub = omega arith;
-  ascend = pair_ascends k m less;
-  are_candidates = All-cons (Contains p.candidates) k (m ∷ []) in_k
-      (All-cons (Contains p.candidates) m [] in_m (All-nil (Contains p.candidates)));
 }
 
 -- where x's total over its part is less than y's, x has the greater bound at a pair of nodes:

@@ -22,10 +22,6 @@ pool_columns s is = columns _ _ _ (beside s is)
 pub length-entries : (s : Inside) → IsPool s → length (state_of s).entries ≡ length s.cuts.kept.cuts
 length-entries s is = length-column (λ e. e.total) _ s.cuts.kept.totals (pool_columns s is).totals ∙ is.totals
 
--- as many hub sets as cuts
-pub length-sets : (s : Inside) → length (sets_of s.cuts.kept.cuts) ≡ length s.cuts.kept.cuts
-length-sets s = length-map s.cuts.kept.cuts kept_set
-
 pub sets_column : (s : Inside) → IsPool s → map (λ e. kept_set e.cut) (state_of s).entries ≡ sets_of s.cuts.kept.cuts
 sets_column s is = sym (map-map kept_set (λ e. e.cut) (state_of s).entries) ∙ ap (map kept_set) (pool_columns s is).cuts
 

@@ -79,9 +79,6 @@ map-all : (f g : Entry → ℕ) (es : List Entry) → ((e : Entry) → f e ≡ g
 map-all f g [] same = refl
 map-all f g (e ∷ es) same = ap₂ (λ x xs. x ∷ xs) (same e) (map-all f g es same)
 
-pub none_short : (s : Shorts) → s.rows ≡ [] → AreShortLoads [] s
-none_short s none = record { row = λ k low. absurd (omega (arith, ap length none)) }
-
 row_before : (es : List Entry) (s t : Shorts) (is_first : Bool) → AreShortLoads es s → is_first ≡ (length es == 0)
     → (is_first ≡ false → length t.rows ≡ length s.rows) → (k : ℕ) → k < length t.rows
     → get_or s.rows k [] ≡ map (λ (x : Entry). slice_index (unit_row x) k / 2 ^ s.halvings) es

@@ -5,7 +5,6 @@ use Rattle.std.proofs.lemmas.List.{get_or-set_same, get_or-set_other}
 use Rattle.std.proofs.lemmas.List.Kept.{AllPairs-from_increasing}
 use Rattle.hub_spec.specs.Problem.{Problem, IsProblem}
 use Rattle.hub_model.specs.CandidateLengths.{candidate_at}
-use Rattle.dual_lines.specs.Places.{ArePlaces}
 use Rattle.leg_duals.proofs.CandidateTables.{candidate_node}
 
 -- the places of the first candidates stand, and no other
@@ -13,14 +12,6 @@ pub record ArePlacesUpTo (p : Problem) (upto : ℕ) (places : List ℕ) : Type 0
   pub long : length places ≡ p.size
   pub place : (x : ℕ) → x < upto → slice_index places (candidate_at p x) ≡ x
   pub candidate : (k : ℕ) → k < p.size → slice_index places k < length p.candidates → candidate_at p (slice_index places k) ≡ k
-
-pub places_none : (p : Problem) (places : List ℕ) → length places ≡ p.size
-    → ((k : ℕ) → k < p.size → slice_index places k ≡ length p.candidates) → ArePlacesUpTo p 0 places
-places_none p places long none = record {
-  long = long;
-  place = λ x below. absurd (omega (arith, below));
-  candidate = λ k node below. absurd (omega (arith, below, none k node));
-}
 
 pub places_more : (p : Problem) (x k : ℕ) (places : List ℕ) → IsProblem p → x < length p.candidates → k ≡ candidate_at p x
     → ArePlacesUpTo p x places → length (set places k x) ≡ length places → ArePlacesUpTo p (x + 1) (set places k x)
@@ -43,10 +34,3 @@ places_more p x k places ok within node so_far kept = record {
   where
     here : slice_index (set places k x) k ≡ x
     here = get_or-set_same places k x 0 (omega (arith, node, candidate_node p x ok within, so_far.long))
-
-pub places_all : (p : Problem) (upto : ℕ) (places : List ℕ) → length p.candidates ≤ upto → ArePlacesUpTo p upto places → ArePlaces p places
-places_all p upto places all so_far = record {
-  long = so_far.long;
-  place = λ x below. so_far.place x (omega (arith, below, all));
-  candidate = so_far.candidate;
-}

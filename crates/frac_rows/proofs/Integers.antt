@@ -57,9 +57,6 @@ pub *ℤ_pairs : (g p h x : ℤ) → (g *ℤ p) *ℤ (h *ℤ x) ≡ (g *ℤ h) *
 pub unsigned_abs-+ℤ-le : (a b : ℤ) → unsigned_abs (a +ℤ b) ≤ unsigned_abs a + unsigned_abs b
 unsigned_abs-+ℤ-le a b = omega (arith, ints)
 
-pub unsigned_abs--ℤ-le : (a b : ℤ) → unsigned_abs (a -ℤ b) ≤ unsigned_abs a + unsigned_abs b
-unsigned_abs--ℤ-le a b = omega (arith, ints)
-
 -- ---- a factor above 0 keeps the order
 
 -- the number that is y - x, where x is not above y

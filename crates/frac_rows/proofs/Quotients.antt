@@ -110,7 +110,3 @@ reduced-times m row low =
 pub length-reduced : (row : List ℤ) → length (reduced row) ≡ length row
 unfolding reduced
 length-reduced row = length-map row (λ x. quotient x (divisor_of row))
-
-pub times-times : (m n : ℤ) (row : List ℤ) → times m (times n row) ≡ times (m *ℤ n) row
-times-times m n row =
-    map-map (λ x. m *ℤ x) (λ x. n *ℤ x) row ∙ map_agree (λ x. m *ℤ (n *ℤ x)) (λ x. m *ℤ n *ℤ x) row (λ x. sym (*ℤ_assoc m n x))

@@ -143,11 +143,6 @@ none_wide_told variables numbers row margin most first last sums telling whole f
   each = λ j low high. sizes_at variables numbers row margin most first sums j telling low (omega arith) (few (j - first) (omega arith));
 }
 
-pub none_wide_more : (variables : ℕ) (numbers row : List ℤ) (first j : ℕ) → NoneWide variables numbers row first j → unsigned_abs (number_of variables numbers row j) ≤ widest → NoneWide variables numbers row first (j + 1)
-none_wide_more variables numbers row first j none here = record {
-  each = λ k low high. below_more (λ i. first ≤ i → unsigned_abs (number_of variables numbers row i) ≤ widest) j (λ i less among. none.each i among less) (λ among. here) k high low;
-}
-
 -- ---- the first number below 0
 
 pub telling_at : (variables : ℕ) (numbers row : List ℤ) (margin : ℤ) (first : ℕ) (sums : List ℤ) (j : ℕ) → AreTelling variables numbers row margin first sums → first ≤ j

@@ -112,20 +112,6 @@ first_of_routes p hubs c best row column other all so_far taken =
     let named = subst (λ (x : ℕ). is_allowed p c x (get_or hubs b.0 0) ≡ true → IsFirst p c best (x, get_or hubs b.0 0)) f at_first in
     subst (λ (x : ℕ). is_allowed p c other.0 x ≡ true → IsFirst p c best (other.0, x)) g named taken.allowed
 
-pub best_is_cheapest : (p : Problem) (hubs : List ℕ) (c : ℕ × ℕ) (best : Option Route) (row column : ℕ) → length hubs ≤ row
-    → IsBest p hubs c best row column → IsCheapest p hubs c best
-best_is_cheapest p hubs c None row column all so_far = λ has. first_of_routes p hubs c None row column has.0 all so_far has.1
-best_is_cheapest p hubs c (Some r) row column all so_far =
-    let cost = so_far.priced.cost in
-    let before = λ (other : ℕ × ℕ) (taken : IsRoute p hubs c other). first_of_routes p hubs c (Some r) row column other all so_far taken in (
-      record {
-        is_route = so_far.priced.is_route;
-        least = λ other taken. ⊎_elim (λ h. omega (arith, h, cost)) (λ h. omega (arith, h.0, cost)) (before other taken);
-        first = λ other taken same. ⊎_elim (λ h. absurd (omega (arith, h, same, cost))) (λ h. h.1) (before other taken);
-      },
-      cost,
-    )
-
 -- ---- of a hub set there is one
 
 pub set_has_route : (p : Problem) (hubs : List ℕ) (i j : ℕ) → IsHubSet p hubs → i < p.size → j < p.size → HasRoute p hubs (i, j)

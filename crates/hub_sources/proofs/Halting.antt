@@ -17,22 +17,13 @@ use Rattle.hub_model.specs.Faults.{fault_of}
 use Rattle.hub_sources.specs.Sources.{WhereTold, Blame, on_instance, on_costs, HoldsFault, alone, together, HoldsCosts, HoldsContents, HoldsCostFault, HoldsInstance, LacksSource, no_file, no_costs}
 use Rattle.hub_sources.specs.Shelves.{FailsFor, StaysShelf}
 use Rattle.hub_sources.specs.Building.{IsBuilt, KeepsLimits}
-use Rattle.hub_sources.specs.Halts.{Halts, IsTooLong, IsOfToken, IsOfWhole, IsOfCosts, IsOfCostTokens, HasCostsFault, LacksCosts, IsOfSource}
+use Rattle.hub_sources.specs.Halts.{Halts, IsTooLong, IsOfToken, IsOfWhole, IsOfCosts, HasCostsFault, LacksCosts, IsOfSource}
 
 -- ---- what is known of the files
 
 pub told_weaker : (held : Option Files) (P Q : Files → Type 0) → ((files : Files) → held ≡ Some files → P files → Q files) → WhereTold held P → WhereTold held Q
 told_weaker None P Q to h = tt
 told_weaker (Some files) P Q to h = to files refl h
-
--- a call after others on the shelf stays as they did
-pub stays_after : {S : Type 0} {held : S → Option Files} {faults : S → ℕ} {sound : S → Type 0} {old mid new : S}
-    → StaysShelf held faults sound old mid → StaysShelf held faults sound mid new → StaysShelf held faults sound old new
-stays_after first second = record {
-  same = second.same ∙ first.same;
-  later = omega (arith, first.later, second.later);
-  sound_still = λ sound. second.sound_still (first.sound_still sound);
-}
 
 -- and so does a call that fails
 pub fails_after : {S : Type 0} {held : S → Option Files} {faults : S → ℕ} {sound : S → Type 0} {old mid new : S} {P : Files → Type 0}
@@ -133,26 +124,6 @@ pub halts_after : {S : Type 0} (held : S → Option Files) (faults : S → ℕ) 
 halts_after held faults sound old mid new P F h stays k =
     weaker (F (held mid)) (F (held old)) (FailsFor held faults sound mid new P) (FailsFor held faults sound old new P) h
     (λ b f is. subst (λ (x : Option Files). F x b f) stays.same is) (λ u. fails_after stays u) k
-
--- a fault of a token of the costs file
-cost_token_told : (held : Option Files) (name : List ℕ) (n : ℕ) (bytes : List ℕ) → length bytes ≤ file_limit → Holds held name bytes
-    → (b : Blame) (f : Fault) → IsOfCostTokens n bytes b f → IsOfCosts held (Some name) n b f
-cost_token_told None name n bytes short is b f h = (h.0, tt)
-cost_token_told (Some files) name n bytes short is b f h = (h.0, (bytes, is, whole.of_cost_token short h.1))
-
-pub cost_token_halts : (held : Option Files) (name : List ℕ) (n : ℕ) (unread : Type 0) (bytes : List ℕ) (h : Halt) → length bytes ≤ file_limit
-    → Holds held name bytes → Halts (IsOfCostTokens n bytes) ⊥ h → Halts (IsOfCosts held (Some name) n) unread h
-cost_token_halts held name n unread bytes h short is k =
-    weaker (IsOfCostTokens n bytes) (IsOfCosts held (Some name) n) ⊥ unread h (cost_token_told held name n bytes short is) (λ u. absurd u) k
-
-cost_length_told : (held : Option Files) (name : List ℕ) (n : ℕ) (b : Blame) (f : Fault) → IsTooLong held name on_costs b f → IsOfCosts held (Some name) n b f
-cost_length_told None name n b f h = (h.0, tt)
-cost_length_told (Some files) name n b f h = (h.0, (h.2.0, h.2.1, whole.of_cost_length h.2.2 h.1))
-
-pub cost_read_halts : (held : Option Files) (name : List ℕ) (n : ℕ) (unread : Type 0) (h : Halt) → Halts (IsTooLong held name on_costs) unread h
-    → Halts (IsOfCosts held (Some name) n) unread h
-cost_read_halts held name n unread h k =
-    weaker (IsTooLong held name on_costs) (IsOfCosts held (Some name) n) unread unread h (cost_length_told held name n) (λ u. u) k
 
 -- a fault of the whole
 whole_told : (held : Option Files) (s : Source) (bytes : List ℕ) (contents : Contents) (costs : Option (List ℕ)) → HasRead held s bytes contents

@@ -61,13 +61,6 @@ joined_more : (nodes : List ℕ) (k : ℕ) (o : Option (List ℕ)) → joined no
 joined_more nodes k None = refl
 joined_more nodes k (Some later) = ap (λ xs. Some xs) (sym (append_assoc nodes (k ∷ []) later))
 
-joined_none : (o : Option (List ℕ)) → joined [] o ≡ o
-joined_none None = refl
-joined_none (Some later) = refl
-
-pub read_none : (word : List ℕ) → IsRead word [] 1 word
-read_none word = record { from_one = omega arith; left = joined_none (nodes_from 1 (slice_split is_comma word)) }
-
 pub read_more : (word nodes : List ℕ) (least : ℕ) (rest part later : List ℕ) (number : ℕ) → IsRead word nodes least rest
     → slice_split is_comma rest ≡ part ∷ slice_split is_comma later → Some number ≡ count_value least most_nodes part
     → IsRead word (nodes ++ (number - 1) ∷ []) (number + 1) later

@@ -1,15 +1,15 @@
 -- The least route by unit of flow, in a loop over first hubs and last hubs, some of which are passed over.
-use Rattle.std.proofs.Common.{◌≡◌, ℕ, ◌+◌, ◌*◌, ◌<◌, ◌≤◌, true, false, List, length, get_or, Option, Some, None, ◌⊎◌, inl, refl, sym, ap, subst, ⊎_elim, ◌∙◌, mul-le-mul_left, true≢false, below_more, arith}
+use Rattle.std.proofs.Common.{◌≡◌, ℕ, ◌+◌, ◌*◌, ◌<◌, ◌≤◌, true, false, List, length, get_or, Option, Some, None, ◌⊎◌, refl, sym, ap, subst, ⊎_elim, ◌∙◌, mul-le-mul_left, true≢false, below_more, arith}
 use Rattle.std.specs.Prelude.{IfSome}
 use Rattle.std.specs.Option.{IsSome}
 use Rattle.std.proofs.lemmas.Bool.{cases_lt}
 use Rattle.std.proofs.lemmas.List.{get_or_default}
 use Rattle.std.proofs.lemmas.List.Elements.{Contains-get_or}
-use Rattle.hub_spec.specs.Problem.{Problem, flow, distance, route_cost, is_allowed}
+use Rattle.hub_spec.specs.Problem.{Problem, flow, route_cost, is_allowed}
 use Rattle.hub_spec.specs.Plans.{IsRoute, HasRoute, IsNotAfter, cost_of_route}
 use Rattle.hub_spec.proofs.BestRoutes.{not_after_trans}
 use Rattle.leg_duals.specs.declared.routes.LimitedRoute.{LimitedRoute}
-use Rattle.leg_duals.specs.Routes.{unit_length, hubs_of, IsShortest, IsLongerThan}
+use Rattle.leg_duals.specs.Routes.{unit_length, hubs_of, IsShortest}
 
 -- the flow times the length is the cost
 pub unit_costs : (p : Problem) (i j k m : ℕ) → flow p i j * unit_length p i j k m ≡ route_cost p i j k m
@@ -66,12 +66,6 @@ pub best_row : (p : Problem) (hubs : List ℕ) (i j : ℕ) (best : Option Limite
     → IsBest p hubs i j best row column → IsBest p hubs i j best (row + 1) 0
 best_row p hubs i j best row column all so_far =
     row_more p hubs i j best row column so_far (λ b within. so_far.columns b (omega (arith, all, within)))
-
--- a first hub whose collection alone is longer than the best so far is passed over
-pub row_passed : (p : Problem) (hubs : List ℕ) (i j : ℕ) (best : Option LimitedRoute) (row : ℕ)
-    → IsLongerThan (p.collect * distance p i (get_or hubs row 0)) best → IsBest p hubs i j best row 0 → IsBest p hubs i j best (row + 1) 0
-row_passed p hubs i j None row longer so_far = absurd longer
-row_passed p hubs i j (Some r) row longer so_far = row_more p hubs i j (Some r) row 0 so_far (λ b within allowed. inl (omega (arith, longer)))
 
 -- a route that is not allowed is passed over
 pub best_passed : (p : Problem) (hubs : List ℕ) (i j : ℕ) (best : Option LimitedRoute) (row column : ℕ)

@@ -51,13 +51,6 @@ lowered_all n count spared lengths old new so_far met = record {
 
 -- ---- with nothing spared
 
-pub any_none : (n : ℕ) (lengths : ℕ → ℕ → ℕ → Type 0) (old new : ℕ → ℕ) → ((j : ℕ) → j < n → new j ≡ old j) → IsLowered n (AnyOf 0 lengths) old new
-any_none n lengths old new same = record {
-  below = λ j low. omega (arith, same j low);
-  met = λ j v low some. absurd (omega (arith, some.1));
-  is = λ j low. inl (same j low);
-}
-
 pub any_more : (n count : ℕ) (lengths : ℕ → ℕ → ℕ → Type 0) (old mid new : ℕ → ℕ) → IsLowered n (AnyOf count lengths) old mid
     → IsLowered n (lengths count) mid new → IsLowered n (AnyOf (count + 1) lengths) old new
 any_more n count lengths old mid new so_far next = record {

@@ -1,12 +1,9 @@
 -- What a stream took and gave, call by call.
-use Rattle.std.proofs.Common.{◌≡◌, ℕ, List, [], ◌++◌, take, drop, Option, None, Some, refl, sym, ap, ◌∙◌, append_assoc, append-nil}
-use Rattle.std.specs.Io.KnownBytes.{Keeps, Appends, Consumes}
-use Rattle.std.proofs.KnownBytes.{Appends-nil, Appends-trans}
+use Rattle.std.proofs.Common.{◌≡◌, ℕ, List, [], ◌++◌, take, drop, Option, None, Some, sym, ap, ◌∙◌, append_assoc, append-nil}
+use Rattle.std.specs.Io.KnownBytes.{Keeps, Appends}
+use Rattle.std.proofs.KnownBytes.{Appends-trans}
 use Rattle.std.proofs.lemmas.List.{take-append-drop}
 use Rattle.hub_io.specs.Outside.{AppendsBut, AppendsFront}
-
-pub appends_none : (a : Option (List ℕ)) (text : List ℕ) → AppendsBut a a text text
-appends_none a text = ([], refl, Appends-nil a)
 
 appends_kept : (a b c : Option (List ℕ)) (bs : List ℕ) → Appends a b bs → Keeps b c → Appends a c bs
 appends_kept None b c bs h k = tt
@@ -35,10 +32,3 @@ whole_taken a b text rest h none =
 
 pub front_taken : (a b c : Option (List ℕ)) (text rest : List ℕ) → AppendsBut a b text rest → Keeps b c → AppendsFront a c text
 front_taken a b c text rest h k = (h.0, rest, h.1, appends_kept a b c h.0 h.2 k)
-
--- a call that read nothing, and then one that did
-pub kept_consumes : (a b c : Option (List ℕ)) (bs : List ℕ) → Keeps a b → Consumes b c bs → Consumes a c bs
-kept_consumes None b c bs k h = tt
-kept_consumes (Some xs) None c bs k h = absurd k
-kept_consumes (Some xs) (Some ys) None bs k h = absurd h
-kept_consumes (Some xs) (Some ys) (Some zs) bs k h = sym k ∙ h

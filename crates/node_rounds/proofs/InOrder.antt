@@ -13,10 +13,6 @@ same_at [] i d e below = absurd (omega arith)
 same_at (x ∷ xs) zero d e below = refl
 same_at (x ∷ xs) (suc i) d e below = same_at xs i d e (omega (arith, below))
 
--- what is so of the item that was read is so at its place
-pub read_holds : {A : Type 0} (P : A → Type 0) (xs : List A) (i : ℕ) (x : A) → x ≡ get_or xs i x → i < length xs → P x → HoldsAt P xs i
-read_holds P xs i x is below holds = λ d. subst P (same_at xs i x d below) (subst P is holds)
-
 long_zip : {B : Type 0} (R : ℕ → B → Type 0) (ns : List ℕ) (ys : List B) → AllZip R ns ys → length ns ≡ length ys
 long_zip R [] [] h = omega arith
 long_zip R [] (y ∷ ys) h = absurd h

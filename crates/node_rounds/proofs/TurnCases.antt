@@ -1,9 +1,9 @@
 -- The outcome of a node evaluation, by the tests that the code makes.
-use Rattle.std.proofs.Common.{◌≡◌, ℕ, ◌≤◌, ◌<◌, Bool, true, false, not, ◌&&◌, nat_lt, ltb-true, List, [], ◌∷◌, length, get_or, map, Option, Some, None, is_some, if◌then◌else◌, refl, ap, sym, ◌∙◌, arith}
+use Rattle.std.proofs.Common.{◌≡◌, ℕ, ◌≤◌, ◌<◌, Bool, true, false, not, ◌&&◌, nat_lt, ltb-true, List, [], ◌∷◌, length, get_or, map, Option, Some, None, is_some, refl, ap, sym, ◌∙◌, arith}
 use Rattle.std.proofs.lemmas.Bool.{and_parts}
 use Rattle.std.proofs.lemmas.List.{length-append}
 use Rattle.hub_spec.specs.Problem.{Problem}
-use Rattle.hub_spec.specs.Trees.{Tree, branch, leaf, empty, block, count, TreeLine, leaf_of, no_hub, preorder}
+use Rattle.hub_spec.specs.Trees.{Tree, branch, leaf, empty, block, count, TreeLine, no_hub, preorder}
 use Rattle.search_spec.specs.States.{denominator, State, Advice, Parts, whole_on, number_in_pool}
 use Rattle.search_spec.specs.Steps.{closes_at, better, Side, fixings}
 use Rattle.search_spec.specs.Laws.{GoesOn}
@@ -39,10 +39,6 @@ end_tree end l has = one_line has.tree l has.one
 -- and has this line alone
 pub end_is_one : (end : Option Tree) (l : TreeLine) → HasEnd end l → lines_of (tree_of l) ≡ line l ∷ []
 end_is_one end l has = ap lines_of (end_tree end l has) ∙ ap (map line) has.one
-
--- so has the tree of a leaf's line
-pub leaf_is_one : (l : TreeLine) (denom : ℕ) (w : List (ℕ × ℕ)) → l ≡ leaf_of denom w → lines_of (tree_of l) ≡ line l ∷ []
-leaf_is_one l denom w is = rw is refl
 
 -- ---- the four kinds of nodes
 

@@ -1,5 +1,5 @@
 -- Numbers by node that are worked out for the nodes of an order alone.
-use Rattle.std.proofs.Common.{◌≡◌, ◌≢◌, ℕ, ◌+◌, ◌*◌, ◌<◌, ◌⊎◌, inl, inr, List, length, set, slice_index, All, Contains, ⊎_elim, refl, ap, sym, subst, ◌∙◌, arith}
+use Rattle.std.proofs.Common.{◌≡◌, ◌≢◌, ℕ, ◌+◌, ◌*◌, ◌<◌, ◌⊎◌, inl, inr, List, length, set, slice_index, All, Contains, ⊎_elim, ap, sym, subst, ◌∙◌, arith}
 use Rattle.std.proofs.lemmas.Bool.{cases_lt, false≢true}
 use Rattle.std.proofs.lemmas.List.{get_or_default, get_or_past, get_or-set_same, get_or-set_other}
 use Rattle.std.proofs.lemmas.List.Elements.{All-get_or, Contains-get_or}
@@ -17,9 +17,6 @@ use Rattle.pareto_cuts.specs.UnitCosts.{AreDualsFrom}
 use Rattle.pareto_cuts.proofs.CommoditySums.{sum_same, sum_zero}
 
 -- ---- one node more
-
-pub rows_start : (order : List ℕ) (added : ℕ → ℕ) (old : List ℕ) → AreRowsAdded order 0 added old old
-rows_start order added old = record { here = λ s below. absurd (omega (arith, below)); others = λ k none. refl }
 
 pub rows_more : (order : List ℕ) (t sum k : ℕ) (added : ℕ → ℕ) (old new : List ℕ) → t < length order
     → ((s t : ℕ) → s < t → t < length order → slice_index order s ≢ slice_index order t) → k ≡ slice_index order t → k < length new

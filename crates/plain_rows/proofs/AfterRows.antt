@@ -1,15 +1,15 @@
 -- One row after a pivot, as it is kept.
-use Rattle.std.proofs.Common.{◌≡◌, ◌≢◌, ℕ, ◌+◌, ◌<◌, ◌≤◌, true, List, All, length, set, ℤ, pos, ◌<ℤ◌, unsigned_abs, sym, ap, ap₂, subst, ◌∙◌, ⊎_elim, arith}
+use Rattle.std.proofs.Common.{◌≡◌, ◌≢◌, ℕ, ◌+◌, ◌<◌, ◌≤◌, List, All, length, set, ℤ, pos, ◌<ℤ◌, unsigned_abs, sym, ap, ap₂, subst, ◌∙◌, ⊎_elim, arith}
 use Rattle.std.specs.Int.{◌∣◌}
 use Rattle.std.proofs.lemmas.Bool.{cases_eq}
 use Rattle.std.proofs.lemmas.List.{set-get_or}
 use Rattle.std.proofs.lemmas.List.Elements.{All-get_or, All-from_get_or}
 use Rattle.std.proofs.lemmas.Nat.Gcd.{dvd_antisymm}
 use Rattle.frac_rows.specs.Divisors.{divisor_of, reduced}
-use Rattle.frac_rows.specs.Rows.{widest, number, eliminated, is_wide_row}
+use Rattle.frac_rows.specs.Rows.{widest, number, eliminated}
 use Rattle.frac_rows.specs.Stored.{piece}
 use Rattle.frac_rows.proofs.Gcds.{divisor_divides, divides_divisor}
-use Rattle.plain_rows.specs.Flat.{base_of, stays_of, cleared, follows_of, IsReduced, AreRows, IsAfter, IsWideAfter}
+use Rattle.plain_rows.specs.Flat.{base_of, stays_of, cleared, follows_of, IsReduced, AreRows, IsAfter}
 use Rattle.plain_rows.proofs.Swapped.{length-base_of, length-stays_of, exchanged_own, exchanged_place, exchanged_other}
 use Rattle.plain_rows.proofs.ReducedRows.{taken_none}
 use Rattle.plain_rows.proofs.FlatTables.{length_row}
@@ -109,18 +109,4 @@ after_reduced w numbers r c i base row taken new other of_base of_row of_taken i
       ∙ ap₂ (λ b t. reduced (eliminated (number b c) (cleared c row) (number row c) t)) of_base of_taken
       ∙ ap (λ x. follows_of w (piece (w + 2) numbers r) c x) of_row;
   kept = kept;
-}
-
-pub wide_reduced : (w h : ℕ) (numbers : List ℤ) (r c i : ℕ) (base row taken : List ℤ) → i < h → i ≢ r → base ≡ piece (w + 2) numbers r
-    → row ≡ piece (w + 2) numbers i → taken ≡ base_of w (piece (w + 2) numbers r) c
-    → is_wide_row (reduced (eliminated (number base c) (cleared c row) (number row c) taken)) ≡ true → IsWideAfter w h numbers r c
-wide_reduced w h numbers r c i base row taken low other of_base of_row of_taken wide = record {
-  i = i;
-  within = low;
-  other = other;
-  wide =
-      ap is_wide_row
-      (sym (ap₂ (λ b t. reduced (eliminated (number b c) (cleared c row) (number row c) t)) of_base of_taken
-      ∙ ap (λ x. follows_of w (piece (w + 2) numbers r) c x) of_row))
-      ∙ wide;
 }

@@ -1,6 +1,5 @@
 -- The column that enters and the row that leaves, by what is kept of the rows.
 use Rattle.std.proofs.Common.{◌≡◌, ◌≢◌, ℕ, ◌+◌, ◌-◌, ◌<◌, ◌≤◌, true, false, Bool, List, length, get_or, ℤ, pos, ◌<ℤ◌, ◌≤ℤ◌, Option, None, Some, refl, sym, ap, ap₂, subst, ◌∙◌, ⊎_elim, arith}
-use borrow.Author.Count.{below_more}
 use Rattle.std.specs.Int.{is_negative, is_positive}
 use Rattle.std.specs.Option.{option_map}
 use Rattle.std.proofs.lemmas.Int.{ints, by_lt_z}
@@ -16,28 +15,6 @@ use Rattle.plain_rows.proofs.FlatTables.{basis_of, objective-table_of, length-wh
 
 -- ---- the place of the least column with a number below 0
 
-pub least_passed : (os : List ℕ) (row : List ℤ) (c : ℕ) (best : Option ℕ) → IsLeastBelow os row c best → pos 0 ≤ℤ number row c
-    → IsLeastBelow os row (c + 1) best
-least_passed os row c None none here = below_more (λ a. pos 0 ≤ℤ number row a) c none here
-least_passed os row c (Some b) least here = (
-  omega (arith, least.0),
-  least.1,
-  λ a l n. ⊎_elim
-      (λ (e : a ≡ c). let low : number row c <ℤ pos 0 = subst (λ x. number row x <ℤ pos 0) e n in absurd (omega (arith, ints, low, here)))
-      (λ (other : a ≢ c). least.2 a (omega (arith, l, other)) n)
-      (cases_eq a c),
-)
-
-pub least_first : (os : List ℕ) (row : List ℤ) (c : ℕ) → IsLeastBelow os row c None → number row c <ℤ pos 0 → IsLeastBelow os row (c + 1) (Some c)
-least_first os row c none here = (
-  omega arith,
-  here,
-  λ a l n. ⊎_elim
-      (λ (e : a ≡ c). subst (λ x. get_or os c 0 ≤ get_or os x 0) (sym e) (omega arith))
-      (λ (other : a ≢ c). let low = none a (omega (arith, l, other)) in absurd (omega (arith, ints, low, n)))
-      (cases_eq a c),
-)
-
 pub least_kept : (os : List ℕ) (row : List ℤ) (c b : ℕ) → IsLeastBelow os row c (Some b) → get_or os b 0 ≤ get_or os c 0
     → IsLeastBelow os row (c + 1) (Some b)
 least_kept os row c b least before = (
@@ -46,17 +23,6 @@ least_kept os row c b least before = (
   λ a l n. ⊎_elim
       (λ (e : a ≡ c). subst (λ x. get_or os b 0 ≤ get_or os x 0) (sym e) before)
       (λ (other : a ≢ c). least.2 a (omega (arith, l, other)) n)
-      (cases_eq a c),
-)
-
-pub least_taken : (os : List ℕ) (row : List ℤ) (c b : ℕ) → IsLeastBelow os row c (Some b) → number row c <ℤ pos 0 → get_or os c 0 < get_or os b 0
-    → IsLeastBelow os row (c + 1) (Some c)
-least_taken os row c b least here before = (
-  omega arith,
-  here,
-  λ a l n. ⊎_elim
-      (λ (e : a ≡ c). subst (λ x. get_or os c 0 ≤ get_or os x 0) (sym e) (omega arith))
-      (λ (other : a ≢ c). let more = least.2 a (omega (arith, l, other)) n in omega (arith, more, before))
       (cases_eq a c),
 )
 

@@ -11,30 +11,6 @@ pub record AreSpread (os : List ℕ) (kept : List ℤ) (c : ℕ) (out : List ℤ
   pub placed : (a : ℕ) → a < c → number out (get_or os a 0) ≡ number kept a
   pub others : (k : ℕ) → ((a : ℕ) → a < c → get_or os a 0 ≢ k) → number out k ≡ pos 0
 
-pub spread_more : (os : List ℕ) (owner v : ℕ) (kept : List ℤ) (c : ℕ) (out : List ℤ) → IsSpread os owner v → c < length os → length out ≡ v + 2
-    → AreSpread os kept c out → AreSpread os kept (c + 1) (set out (get_or os c 0) (number kept c))
-spread_more os owner v kept c out is low long before =
-    let o = get_or os c 0 in
-    let within : o < length out = (let less = is.low c low in omega (arith, less, long)) in
-    record {
-      placed =
-          λ a l.
-          ⊎_elim
-          (λ (here : a ≡ c).
-          ap (λ x. number (set out o (number kept c)) (get_or os x 0)) here ∙ get_or-set_same out o (number kept c) (pos 0) within
-          ∙ ap (number kept) (sym here))
-          (λ (other : a ≢ c).
-          let first : a < c = omega (arith, l, other) in
-          get_or-set_other out o (get_or os a 0) (number kept c) (pos 0)
-          (λ e. other (is.once a c (omega (arith, first, low)) low e))
-          ∙ before.placed a first)
-          (cases_eq a c);
-      others =
-          λ k none.
-          get_or-set_other out o k (number kept c) (pos 0) (λ e. none c (omega arith) (sym e))
-          ∙ before.others k (λ a l. none a (omega (arith, l)));
-    }
-
 pub spread_written : (os : List ℕ) (owner v n : ℕ) (kept out : List ℤ) → n ≡ length os → IsSpread os owner v → length kept ≡ n + 2 → length out ≡ v + 2
     → AreSpread os kept n out → set (set out owner (number kept (n + 1))) (v + 1) (number kept n) ≡ spread os owner v kept
 spread_written os owner v n kept out size is kept_long long written =

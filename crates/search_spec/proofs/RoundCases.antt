@@ -61,11 +61,6 @@ pub split_none : (p : Problem) (parts : Parts) (n : Option ℕ) (advice : Advice
 unfolding split_up
 split_none p parts n advice x s = refl
 
-pub split_alone : (p : Problem) (parts : Parts) (n : Option ℕ) (advice : Advice) (f : ℕ × Side) (rest : List (ℕ × Side)) (x : Pending) (s : State)
-    → is_some (parts.only x.branch) ≡ true → after_fixings p parts n advice x s ≡ split_up p parts n advice (f ∷ rest) x s
-unfolding split_up
-split_alone p parts n advice f rest x s only = rw only refl
-
 pub split_one : (p : Problem) (parts : Parts) (n : Option ℕ) (advice : Advice) (f : ℕ × Side) (rest : List (ℕ × Side)) (x : Pending) (s : State)
     → is_some (parts.only x.branch) ≡ false → may_split n s ≡ true
     → record {

@@ -22,9 +22,6 @@ use Rattle.search_steps.specs.Weights.{AreNodeWeights}
 pub grown_same : (entries : List Entry) → HasGrown entries entries
 grown_same entries = record { more = []; is = sym (append-nil entries) }
 
-pub grown_by_one : (entries : List Entry) (e : Entry) → HasGrown entries (entries ++ e ∷ [])
-grown_by_one entries e = record { more = e ∷ []; is = refl }
-
 pub grown_twice : (first second third : List Entry) → HasGrown first second → HasGrown second third → HasGrown first third
 grown_twice first second third once again = record {
   more = once.more ++ again.more;

@@ -1,12 +1,12 @@
 -- Steps of a search through all sets of candidates, one candidate after another.
-use Rattle.std.proofs.Common.{◌≡◌, ℕ, ◌+◌, ◌<◌, ◌≤◌, Bool, true, false, cond, List, [], ◌∷◌, ◌++◌, length, get_or, take, filter, Option, Some, None, nat_eq, Contains, refl, ap, ap₂, sym, ◌∙◌, subst, eq-eqb, ne_eqb, arith}
+use Rattle.std.proofs.Common.{◌≡◌, ℕ, ◌+◌, ◌<◌, ◌≤◌, Bool, true, false, cond, List, [], ◌∷◌, ◌++◌, length, get_or, take, filter, Option, Some, None, nat_eq, Contains, refl, ap, ap₂, sym, ◌∙◌, eq-eqb, ne_eqb, arith}
 use Rattle.std.specs.Prelude.{IfSome}
 use Rattle.std.specs.List.Sorted.{IsStrictlyIncreasing}
 use Rattle.std.proofs.lemmas.List.{take_all, length-take-le, get_or-take, get_or_default, append-nil}
 use Rattle.std.proofs.lemmas.List.Elements.{filter_more}
 use Rattle.std.proofs.lemmas.List.Kept.{AllPairs-from_increasing}
 use Rattle.hub_spec.specs.Problem.{Problem, IsProblem}
-use Rattle.hub_spec.specs.Plans.{Plan, IsHubSet, HasWanted, IsSetCost, plan_cost}
+use Rattle.hub_spec.specs.Plans.{Plan, plan_cost}
 use Rattle.test_plain.specs.AllSets.{AreFirstHubs, IsWantedPlan, IsBest, CostsUpTo, IsNotDearer, NoneCheaper}
 use Rattle.hub_spec.proofs.SumLemmas.{by_test}
 use Rattle.hub_spec.proofs.Sets.{filter_same, is_in, part_is_filter}
@@ -68,23 +68,6 @@ decided : (p : Problem) (h : ℕ → Bool) (plan : Plan) (inside : List ℕ) →
     → filter h (take (length p.candidates) p.candidates) ≡ inside → plan.hubs ≡ inside
 decided p h plan inside hubs same =
     hubs ∙ ap (filter h) (sym (take_all (length p.candidates) p.candidates (omega arith))) ∙ same
-
--- the best plan of these hubs is the one that was found, or does not cost less
-pub none_cheaper_set : (p : Problem) (inside : List ℕ) (c : ℕ) (found : Plan) → IsSetCost p inside c → plan_cost p found ≤ c
-    → NoneCheaper p (length p.candidates) inside (Some found)
-none_cheaper_set p inside c found cost low = record {
-  least = λ h plan wanted hubs same.
-      omega (arith, low, cost.least plan wanted.is_plan (decided p h plan inside hubs same));
-}
-
--- hubs of which no plan is wanted
-pub none_cheaper_passed : (p : Problem) (inside : List ℕ) (found : Option Plan) → (IsHubSet p inside → HasWanted p inside → ⊥)
-    → NoneCheaper p (length p.candidates) inside found
-none_cheaper_passed p inside found none = record {
-  least = λ h plan wanted hubs same.
-      let here = decided p h plan inside hubs same in
-      absurd (none (subst (IsHubSet p) here wanted.is_plan.hubs) (subst (HasWanted p) here wanted.wanted));
-}
 
 -- every plan has a set of candidates as its hubs
 each_plan : (p : Problem) (found : Option Plan) (plan : Plan) → IsProblem p → NoneCheaper p 0 [] found → IsWantedPlan p plan

@@ -25,11 +25,6 @@ back_is l k j = ⊎_elim inl
     (λ p. inr (l.count + p.0, (omega arith, omega (arith, p.1)), p.2))
     (least_of_is (last_leg l k j) (λ x. trunk_leg l k (l.count + x) + last_leg l (l.count + x) j) l.hubs)
 
-pub reach_le_first : (l : UnitLegs) (first : List ℕ) (k : ℕ) → reach_leg l first k ≤ slice_index first k
-unfolding reach_leg
-reach_le_first l first k =
-    least_of_le_start (slice_index first k) (λ m. slice_index first (l.count + m) + trunk_leg l (l.count + m) k) l.hubs
-
 pub reach_le_by : (l : UnitLegs) (first : List ℕ) (k m : ℕ) → IsHub l m → reach_leg l first k ≤ slice_index first m + trunk_leg l m k
 unfolding reach_leg
 reach_le_by l first k m hub =

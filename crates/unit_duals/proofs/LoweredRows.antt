@@ -46,9 +46,6 @@ lowered_all n bases table start x hubs old mid new alike lowered same = record {
       same (lowered.here j below) ∙ alike.here j below;
 }
 
-pub alike_none : (n : ℕ) (bases table : List ℕ) (start hubs : ℕ) (items : List ℕ) → EndAlike n bases table start hubs items items
-alike_none n bases table start hubs items = record { here = λ j below. refl }
-
 -- one of the hubs sooner
 pub alike_sooner : (n : ℕ) (bases table : List ℕ) (start hubs y : ℕ) (old new : List ℕ) → y < hubs
     → AreLoweredBy n bases table (start + y) old new → EndAlike n bases table start hubs old new

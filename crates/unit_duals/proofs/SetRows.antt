@@ -1,5 +1,5 @@
 -- One row of a table, set or raised.
-use Rattle.std.proofs.Common.{◌≡◌, ℕ, ◌+◌, ◌*◌, ◌<◌, ◌≤◌, List, length, set, slice_index, inl, inr, refl, subst, ap, ◌∙◌, ⊎_elim, arith}
+use Rattle.std.proofs.Common.{◌≡◌, ℕ, ◌+◌, ◌*◌, ◌<◌, ◌≤◌, List, length, set, slice_index, inl, inr, subst, ap, ◌∙◌, ⊎_elim, arith}
 use Rattle.std.proofs.lemmas.Bool.{cases_lt}
 use Rattle.std.proofs.lemmas.List.{get_or-set_same, get_or-set_other}
 use Rattle.std.proofs.lemmas.List.Elements.{All-get_or}
@@ -7,12 +7,6 @@ use Rattle.std.proofs.lemmas.Nat.{same_from_place}
 use Rattle.unit_duals.specs.Cells.{cell}
 use Rattle.unit_duals.specs.Nearness.{HoldsNear}
 use Rattle.unit_duals.specs.Raised.{IsRaised, IsRowRaised, IsRowSet}
-
-pub row_set_none : (n t : ℕ) (value : ℕ → ℕ) (table : List ℕ) → IsRowSet n t 0 value table table
-row_set_none n t value table = record {
-  here = λ j below. absurd (omega (arith, below));
-  others = λ s j other column. refl;
-}
 
 -- the next cell of the row is set
 pub row_set_more : (n t upto v : ℕ) (value : ℕ → ℕ) (old new : List ℕ) → upto < n → t * n + upto < length new → v ≡ value upto
@@ -61,13 +55,3 @@ row_raised n t at nodes asked by far spared old new start same sparing near rais
     here j y column below e =
         let is : slice_index nodes y ≡ j = omega (arith, e, start) in
         ap by is ∙ same j column
-
--- left as it is, where all is spared
-pub row_spared : (n t : ℕ) (asked : ℕ → ℕ) (spared : ℕ → Type 0) (table : List ℕ) → ((j : ℕ) → j < n → spared j)
-    → IsRowRaised n t asked spared table table
-row_spared n t asked spared table all = record {
-  others = λ s j other column. refl;
-  grown = λ j column. omega arith;
-  met = λ j column. inr (all j column);
-  tight = λ j column. inl refl;
-}

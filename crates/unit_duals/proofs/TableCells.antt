@@ -5,9 +5,6 @@ use Rattle.std.proofs.lemmas.List.{get_or-set_same, get_or-set_other}
 use Rattle.std.proofs.lemmas.Nat.{same_from_place, mul-add-lt, row_fits}
 use Rattle.unit_duals.specs.Cells.{cell, IsTable}
 
-pub table_none : (n : ℕ) (R : ℕ → ℕ → ℕ → Type 0) (table : List ℕ) → IsTable n R table 0
-table_none n R table = record { each = λ t j column below. absurd (omega (arith, below)) }
-
 -- the next cell is set
 pub table_more : (n : ℕ) (R : ℕ → ℕ → ℕ → Type 0) (table : List ℕ) (t j v z : ℕ) → j < n → t * n + j < length table → R t j v
     → z ≡ t * n + j + 1 → IsTable n R table (t * n + j) → IsTable n R (set table (t * n + j) v) z

@@ -1,8 +1,8 @@
 -- A table that is set column by column.
-use Rattle.std.proofs.Common.{◌≡◌, ℕ, ◌+◌, ◌*◌, ◌<◌, ◌≤◌, List, length, set, slice_index, refl, sym, subst, ◌∙◌, ⊎_elim, arith}
+use Rattle.std.proofs.Common.{◌≡◌, ℕ, ◌+◌, ◌*◌, ◌<◌, ◌≤◌, List, length, set, slice_index, sym, subst, ◌∙◌, ⊎_elim, arith}
 use Rattle.std.proofs.lemmas.Bool.{cases_lt}
 use Rattle.std.proofs.lemmas.List.{get_or-set_same, get_or-set_other}
-use Rattle.std.proofs.lemmas.Nat.{same_from_place, mul-le}
+use Rattle.std.proofs.lemmas.Nat.{same_from_place}
 use Rattle.unit_duals.specs.Cells.{cell, IsTable}
 use Rattle.unit_duals.specs.Lengths.{UnitLegs, AreLegs, IsLegRow, stops, trunk_leg, last_leg}
 use Rattle.unit_duals.specs.Lowered.{length_from, AreLowered, AreRows}
@@ -11,9 +11,6 @@ use Rattle.unit_duals.specs.Values.{back_leg}
 use Rattle.unit_duals.proofs.LeastNumbers.{least_same}
 use Rattle.unit_duals.proofs.LegRows.{trunk_leg_limit}
 use Rattle.unit_duals.proofs.TableCells.{cell_within, row_within}
-
-pub column_none : (n j : ℕ) (value : ℕ → ℕ) (table : List ℕ) → IsColumnSet n 0 j value table table
-column_none n j value table = record { here = λ k below. absurd (omega (arith, below)); others = λ k i other column. refl }
 
 -- the next cell of the column is set
 pub column_more : (n rows j v : ℕ) (value : ℕ → ℕ) (old new : List ℕ) → j < n → rows * n + j < length new → v ≡ value rows
@@ -35,31 +32,6 @@ column_more n rows j v value old new column within is so_far = record {
 -- the columns before `upto` are set
 pub record AreColumnsSet (n rows upto : ℕ) (value : ℕ → ℕ → ℕ) (table : List ℕ) : Type 0 where
   pub each : (k j : ℕ) → k < rows → j < upto → cell n table k j ≡ value k j
-
-pub columns_none : (n rows : ℕ) (value : ℕ → ℕ → ℕ) (table : List ℕ) → AreColumnsSet n rows 0 value table
-columns_none n rows value table = record { each = λ k j row below. absurd (omega (arith, below)) }
-
--- one more column
-pub columns_more : (n rows j : ℕ) (value : ℕ → ℕ → ℕ) (by : ℕ → ℕ) (old new : List ℕ) → j < n → ((k : ℕ) → k < rows → by k ≡ value k j)
-    → AreColumnsSet n rows j value old → IsColumnSet n rows j by old new → AreColumnsSet n rows (j + 1) value new
-columns_more n rows j value by old new column same so_far next = record {
-  each = λ k i row below. ⊎_elim
-      (λ (early : i < j). next.others k i (λ e. omega (arith, early, e)) (omega (arith, early, column)) ∙ so_far.each k i row early)
-      (λ (late : j ≤ i). let is : j ≡ i = omega (arith, below, late) in
-      subst (λ (x : ℕ). cell n new k x ≡ value k x) is (next.here k row ∙ same k row))
-      (cases_lt i j);
-}
-
--- all of them
-pub columns_all : (n rows upto z : ℕ) (value : ℕ → ℕ → ℕ) (table : List ℕ) → upto ≡ n → z ≡ rows * n → AreColumnsSet n rows upto value table
-    → IsTable n (λ k j v. v ≡ value k j) table z
-columns_all n rows upto z value table all long set = record {
-  each = λ k j column below. set.each k j (row k j below) (omega (arith, column, all));
-}
-  where
-    row : (k j : ℕ) → k * n + j < z → k < rows
-    row k j below = ⊎_elim (λ (within : k < rows). within)
-        (λ (past : rows ≤ k). absurd (omega (arith, mul-le rows n k n past (omega arith), below, long))) (cases_lt k rows)
 
 -- ---- the lengths to one destination
 

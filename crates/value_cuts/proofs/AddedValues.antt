@@ -1,5 +1,5 @@
 -- Loads by node, to which something is added for each candidate in turn.
-use Rattle.std.proofs.Common.{◌≡◌, ◌≢◌, ℕ, ◌+◌, ◌<◌, List, length, set, slice_index, Contains, ⊎_elim, refl, ap, sym, subst, ◌∙◌, arith}
+use Rattle.std.proofs.Common.{◌≡◌, ◌≢◌, ℕ, ◌+◌, ◌<◌, List, length, set, slice_index, Contains, ⊎_elim, ap, sym, subst, ◌∙◌, arith}
 use Rattle.std.proofs.lemmas.Bool.{cases_lt, false≢true}
 use Rattle.std.proofs.lemmas.List.{get_or_default, get_or-set_same, get_or-set_other}
 use Rattle.std.proofs.lemmas.List.Elements.{Contains-get_or}
@@ -13,9 +13,6 @@ use Rattle.hub_model.specs.CandidateLengths.{candidate_at}
 pub record AreAdded (p : Problem) (x : ℕ) (added : ℕ → ℕ) (old new : List ℕ) : Type 0 where
   pub here : (s : ℕ) → s < x → slice_index new (candidate_at p s) ≡ slice_index old (candidate_at p s) + added (candidate_at p s)
   pub others : (k : ℕ) → ((s : ℕ) → s < x → candidate_at p s ≢ k) → slice_index new k ≡ slice_index old k
-
-pub added_none : (p : Problem) (added : ℕ → ℕ) (old : List ℕ) → AreAdded p 0 added old old
-added_none p added old = record { here = λ s below. absurd (omega (arith, below)); others = λ k none. refl }
 
 apart : (p : Problem) (s x : ℕ) → IsProblem p → s < x → x < length p.candidates → candidate_at p s ≢ candidate_at p x
 apart p s x ok less within same =
