@@ -39,10 +39,11 @@ impl Pricing {
         })
     }
 
-    /// Sets the values, as far as both lists go.
+    /// Sets the values, as far as both lists go, without an offset.
     pub(crate) fn take(&mut self, values: &[u32])
         ensures { (p : Problem) → IsPricingFor p self.old → IsPricingFor p self.new }
     {
+        self.values.set_offset(0);
         copy_values(values, self.values.rows_mut());
     }
 
@@ -70,15 +71,34 @@ impl Pricing {
         )
     }
 
-    /// Computes the loads of the cut of the values, whose prices are known, and returns its total.
-    pub(crate) fn sum(&mut self, tables: &CandidateLegs) -> u128
+    /// Computes the loads of the cut of the values, whose prices are known, and returns its total. Where one of these nodes
+    /// is open, and no node is worth its fixed cost, the offset is what the cheapest lacks to its fixed cost.
+    pub(crate) fn sum(&mut self, tables: &CandidateLegs, some_open: &[u32]) -> u128
         requires fit { IsPricingFor tables.now self.old }
         requires prices { AreRowPrices tables.now self.old.values self.old.prices.items }
         ensures fit { IsPricingFor tables.now self.new }
         ensures sums { AreLoads tables.now (value_cut tables.now self.new.values) result self.new.loads.items }
     {
+        let total = sums_of(tables, &self.values, &self.prices, &mut self.loads);
+        let offset = least_rest(tables.instance().fixed_costs(), &self.loads, some_open);
+        if offset == 0 {
+            return total;
+        }
+        self.values.set_offset(offset);
         sums_of(tables, &self.values, &self.prices, &mut self.loads)
     }
+}
+
+// The least of what the nodes' fixed costs are above their loads, 0 for no node.
+fn least_rest(fixed: &[u128], loads: &[u128], nodes: &[u32]) -> u128 {
+    let mut least: Option<u128> = None;
+    for k in nodes {
+        let own = fixed.get(*k as usize).copied().unwrap_or(0);
+        let load = loads.get(*k as usize).copied().unwrap_or(0);
+        let rest = own.saturating_sub(load);
+        least = Some(least.map_or(rest, |so_far| so_far.min(rest)));
+    }
+    least.unwrap_or(0)
 }
 
 // Copies the values, as far as both lists go.

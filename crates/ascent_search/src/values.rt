@@ -31,15 +31,27 @@ impl Walk<'_> {
         ensures same { IsSameWalk self.old self.new }
         ensures advised { IfOk result (λ ended. IsAdvised self.old.task.now branch.now self.old.progress self.new.progress ended) }
     {
-        let total = self
-            .bench
-            .value_sums(rt, self.alloc, self.task.workers, values)?;
+        let total = self.bench.value_sums(
+            rt,
+            self.alloc,
+            self.task.workers,
+            values,
+            self.some_open(branch),
+        )?;
         let closes = self.sums_close(branch, total)?;
         if !closes && may_split(self.task, &self.progress) {
             return Ok(false);
         }
         self.end_by_sums(branch, total, closes)?;
         Ok(true)
+    }
+
+    // Nodes of the branch of which one is open in each wanted hub set, where it has no hub yet and any number is wanted.
+    fn some_open<'b>(&self, branch: &'b Branch) -> &'b [u32] {
+        if self.task.instance.wanted().is_none() && branch.inside().is_empty() {
+            return branch.free();
+        }
+        &[]
     }
 
     // Stores the cut of the last values, and ends the branch: with the leaf on that cut, if it fathoms at the cutoff,

@@ -1,11 +1,12 @@
 //! The sums of the cut of any dual values.
 
 ghost use Rattle.std.specs.Prelude.{◌≡◌, ℕ, ◌+◌, ◌*◌, ◌^◌, ◌<◌, ◌≤◌, length, slice_index, All};
-ghost use Rattle.hub_spec.specs.Limits.{most_flow};
+ghost use Rattle.hub_spec.specs.Limits.{most_flow, most_cost};
 ghost use Rattle.hub_spec.specs.Cuts.{total, load};
 ghost use Rattle.cut_model.specs.ValueRows.{AreValuesFor, node_value, value_cut};
 ghost use Rattle.value_cuts.specs.Prices.{AreRowPrices};
 
+use crate::duals::offset_of;
 use crate::pricing::value_of;
 use crate::{CandidateLegs, PriceScratch, Values, set_prices};
 
@@ -41,27 +42,37 @@ pub fn sums_of(tables: &CandidateLegs, values: &Values, prices: &[u64], loads: &
 {
     loads.fill(0);
     let mut total = 0;
+    let mut offset = offset_of(tables.instance(), values.offset(), 0, 0);
     for t in 0..prices.len() {
         let flow = tables.instance().flows()[t];
-        total += flow as u128 * prices[t] as u128;
-        add_values(tables, flow, values.unit(), values.row_at(t), loads);
+        total += offset + flow as u128 * prices[t] as u128;
+        add_values(tables, flow, offset, values.unit(), values.row_at(t), loads);
+        offset = 0;
     }
     total
 }
 
-/// Adds the flow times its value to the load of each candidate.
-fn add_values(tables: &CandidateLegs, flow: u64, unit: u32, row: &[u32], loads: &mut [u128])
+/// Adds the offset, and the flow times its value, to the load of each candidate.
+fn add_values(
+    tables: &CandidateLegs,
+    flow: u64,
+    offset: u128,
+    unit: u32,
+    row: &[u32],
+    loads: &mut [u128],
+)
     requires flow { flow ≤ most_flow }
+    requires offset { offset ≤ most_cost }
     requires row { length row.now ≡ length tables.now.candidates }
     requires long { length loads.old ≡ tables.now.size }
     requires limit { All (λ v. v ≤ 2 ^ 120) loads.old }
     ensures { (k : ℕ) → k < tables.now.size
-        → slice_index loads.new k ≡ slice_index loads.old k + flow * node_value tables.now unit row.now k }
+        → slice_index loads.new k ≡ slice_index loads.old k + (offset + flow * node_value tables.now unit row.now k) }
 {
     let ceiling = tables.ceiling();
     let candidates = tables.instance().candidates();
     for x in 0..candidates.len() {
         let value = value_of(ceiling, unit, row[x]);
-        loads[candidates[x] as usize] += flow as u128 * value as u128;
+        loads[candidates[x] as usize] += offset + flow as u128 * value as u128;
     }
 }
