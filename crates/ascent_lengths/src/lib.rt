@@ -5,10 +5,10 @@
 //! 0. Where `--max-length` limits routes, a route that is too long counts as `FAR`, so both kinds of instances share
 //! one code.
 //!
-//! In the order of reading: `rows` (vectors and tables, with the inner loops that take most of the time), `units` (the
-//! units of lengths and flows), `distances` (which routes `--max-length` allows), `tables` (the legs over some places),
-//! `lengths` (the instance), `commodity` (the routes of a commodity), `asked` (the values that routes require of places
-//! at a price), `workers` (how many threads share the work).
+//! In the order of reading: `rows` (vectors and tables, with the inner loops that take most of the time), `units`
+//! (the units of lengths and flows), `distances` (which routes `--max-length` allows). Then `tables` (the legs over
+//! some places), `lengths` (the instance), `commodity` (the routes of a commodity). Last `asked` (the values that
+//! routes require of places at a price), `workers` (how many threads share the work).
 #![tactic(auto)]
 
 mod asked;

@@ -31,7 +31,7 @@ last_sound p cuts led target [] (m ∷ lines) b pending l other to walks = absur
 last_sound p cuts led target (c ∷ rest) (m ∷ lines) b pending l other to walks =
     last_sound p cuts led target (filled c m rest) lines b pending l other to.1 walks.1
 
--- where the lines walk without the last cut, they walk so to each target to which they do with it
+-- where the lines walk without the last cut, and with it at some cutoff, they walk without it at that cutoff too
 line_without : (p : Problem) (cuts : List Cut) (more : Cut) (led target : ℕ) (b : Branching) (l : TreeLine) → IsSoundLine p cuts led b l
     → IsSoundLine p (cuts ++ more ∷ []) target b l → IsSoundLine p cuts target b l
 line_without p cuts more led target b (branch_on k) to sound = sound

@@ -1,4 +1,4 @@
--- Branches that end: what is left in them, as the parts of the rule by which `solve` searches tell.
+-- Branches that end: what is left in them, by the parts of the rule of `solve`.
 use Rattle.std.proofs.Common.{◌≡◌, ℕ, ◌+◌, ◌≤◌, ◌||◌, nat_eq, nat_lt, eqb-true, List, [], ◌∷◌, length, get_or, Option, None, Some, IfSome, refl, sym, ap, subst, ◌∙◌, pos, arith}
 use Rattle.std.specs.Prelude.{option_map}
 use Rattle.std.proofs.lemmas.Bool.{eqb-false}
@@ -26,7 +26,7 @@ use Rattle.p_hub.proofs.OpenBranches.{never_blocked}
 use Rattle.ascent_search.specs.Ends.{IsBarren, IsOpen, IsLastSet}
 use Rattle.ascent_search.specs.Progressing.{AreFirstHubs}
 
--- ---- the parts of the rule, with no advice
+-- ---- the parts of the rule, with no weights and point of the master
 
 abbrev no_advice : Advising
 no_advice s b = record { weights = []; point = λ k. pos 0; scale = pos 1 }
@@ -46,7 +46,7 @@ no_advice_sound p s b is_state is_branch some = record {
 parts_sound : (p : Problem) → IsProblem p → AreSound p (rule_parts p no_advice)
 parts_sound p ok = rule_sound p no_advice ok (no_advice_sound p)
 
--- the cut of the one set that is left closes what it says of it
+-- the cut from the one set that is left fathoms the branch at what the cut says of the set
 pub last_closes : (p : Problem) (b : Branching) (set : List ℕ) (cuts : List Cut) (x target : ℕ) → IsProblem p → IsBranch p b
     → HasRoom p.wanted b → only_set p.wanted b ≡ Some set → NumberReaches p cuts x set target
     → Closes denominator target (leaf_bound p cuts denominator (whole_on x) b)
@@ -55,7 +55,7 @@ last_closes p b set cuts x target ok is room only reaches = (parts_sound p ok).c
 
 -- ---- lines of branches in which no set is left
 
--- what is told as a line
+-- the line, if there is one, as a list
 abbrev pub lines_told : Option model.TreeLine → Option (List TreeLine)
 lines_told told = option_map (λ (l : model.TreeLine). tree_line_of l ∷ []) told
 
@@ -79,7 +79,7 @@ block_end : (p : Problem) (b : Branching) (o : Option (ℕ × ℕ)) → lacking 
 unfolding blocked_end
 block_end p b o e = ap (λ (x : Option (ℕ × ℕ)). option_map (λ (c : ℕ × ℕ). block c) x) e
 
--- a line that is told of its numbers
+-- the line that ends a branch by its numbers: no wanted hub set is left there
 number_line : (p : Problem) (b : Branching) (line : TreeLine) → IsProblem p → IsBranch p b
     → Some (line ∷ []) ≡ option_map preorder (barren_end p.wanted b) → IsBarren p b line
 number_line p b line ok is told = by p.wanted refl told
@@ -113,7 +113,7 @@ pub number_barren : (p : Problem) (b : Branching) (told : Option model.TreeLine)
     → lines_told told ≡ option_map preorder (barren_end p.wanted b) → told ≡ Some line → IsBarren p b (tree_line_of line)
 number_barren p b told line ok is end known = number_line p b (tree_line_of line) ok is (sym (ap lines_told known) ∙ end)
 
--- a line that is told of what its open nodes lack
+-- the line that ends a branch whose open nodes are infeasible for a commodity: no wanted hub set is left there
 pub block_barren : (p : Problem) (b : Branching) (told : Option model.TreeLine) → IsProblem p → IsBranch p b → barren_end p.wanted b ≡ None
     → lines_told told ≡ option_map preorder (blocked_end p b) → IfSome told (λ l. IsBarren p b (tree_line_of l))
 block_barren p b None ok is goes told = tt
@@ -136,7 +136,7 @@ block_barren p b (Some l) ok is goes told = by (lacking p (all_open b)) refl tol
 
 -- ---- branches that go on
 
--- with neither an end by its numbers nor by what its open nodes lack
+-- with neither an end by its numbers nor one by a commodity for which its open nodes are infeasible
 pub is_open : (p : Problem) (b : Branching) (told : Option model.TreeLine) → barren_end p.wanted b ≡ None
     → lines_told told ≡ option_map preorder (blocked_end p b) → told ≡ None → IsOpen p b
 is_open p b told goes is none = record {
@@ -170,7 +170,7 @@ all_candidates p ok any = record {
   lacks_none = some_serves p p.candidates any ok.some_candidate;
 }
 
--- the set with which a search begins that is given none is that of the rule
+-- the set with which a search begins that gets none is that of the rule
 begun_hubs : (p : Problem) (parts : Parts) (wanted : Option ℕ) → (begun_for p parts wanted).hubs ≡ least_of wanted p.candidates
 unfolding begun_for begun
 begun_hubs p parts None = refl

@@ -1,4 +1,4 @@
--- The choice of a kept cut for a leaf, and the leaves that come of it.
+-- The choice of a stored cut for a leaf, and the leaves that come of it.
 use Rattle.std.proofs.Common.{◌≡◌, ℕ, ◌^◌, ◌<◌, ◌≤◌, ℤ, pos, negsuc, ◌≤ℤ◌, List, [], length, All, Option, None, Some, IfSome, ◌⊎◌, inl, inr, refl, sym, subst, arith}
 use Rattle.std.proofs.lemmas.Int.{ints}
 use Rattle.std.proofs.lemmas.List.{length-map}
@@ -115,18 +115,18 @@ next_within best other next low high (inr new) = subst (λ (x : Choice). IsWithi
 
 -- ---- what a leaf says
 
--- a bound that is not below 0, or closes some goal, closes itself once rounded up
+-- a bound that is not below 0, or fathoms at some cutoff, fathoms at itself once rounded up
 said_closes : (bound : ℤ) (goal : ℕ) → (pos 0 ≤ℤ bound) ⊎ Closes denominator goal bound → Closes denominator (rounded_up bound) bound
 said_closes bound goal (inl low) = rounded_closes bound low
 said_closes (pos n) goal (inr closes) = rounded_closes (pos n) (omega (arith, ints))
 said_closes (negsuc n) goal (inr closes) = closes_less denominator goal 0 (negsuc n) (omega arith) closes
 
--- and is then no less than the goal
+-- once rounded up, it is then no less than the cutoff
 pub said_least : (bound : ℤ) (goal : ℕ) → Closes denominator goal bound → goal ≤ rounded_up bound
 said_least (pos n) goal closes = omega (arith, ints, closes)
 said_least (negsuc n) goal closes = omega (arith, ints, closes)
 
--- once rounded up, and no more than the incumbent's cost and what earlier leaves say, it closes itself
+-- it fathoms at the least of itself rounded up, the incumbent's cost and what earlier leaves say
 pub left_closes : (bound : ℤ) (goal cost r : ℕ) (left : Option ℕ) → (pos 0 ≤ℤ bound) ⊎ Closes denominator goal bound
     → r ≡ rounded_up bound → Closes denominator (lesser cost (Some (lesser r left))) bound
 left_closes bound goal cost r left sound up =

@@ -249,7 +249,7 @@ own_most : (p : Problem) (hubs : List ℕ) (cost : ℕ) → AreFirstHubs p hubs 
 own_most p hubs cost first is_cost = λ set other is_other.
     omega (arith, one_set_cost p hubs cost other is_cost (subst (λ (hs : List ℕ). IsSetCost p hs other) (sym first.are) is_other))
 
--- what was told of the set that there may be holds of the set that there is
+-- what holds of the set that there may be holds of the set that there is
 pub as_wanted : (p : Problem) (nodes : List ℕ) (told : Option (List ℕ)) (set : List ℕ) → told ≡ Some set → IfSome told (IsWantedAs p nodes)
     → IsWantedAs p nodes set
 as_wanted p nodes told set is said = subst (λ (o : Option (List ℕ)). IfSome o (IsWantedAs p nodes)) is said

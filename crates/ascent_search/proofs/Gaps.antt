@@ -8,7 +8,7 @@ use Rattle.ascent_search.specs.Gaps.{most_gap, IsWithinGap, goal_of}
 pub all_within : (gap cost bound : ℕ) → cost ≤ bound → IsWithinGap gap bound cost
 all_within gap cost bound less = omega (arith, less)
 
--- and what is no less than the goal
+-- and a bound that is no less than the cutoff is
 pub goal_within : (gap cost bound : ℕ) → goal_of gap cost ≤ bound → IsWithinGap gap bound cost
 goal_within gap cost bound least = let down = div-mul-le_self (gap * cost) 100000 in omega (arith, least, down)
 
@@ -16,7 +16,7 @@ goal_within gap cost bound least = let down = div-mul-le_self (gap * cost) 10000
 pub no_gap : (bound cost : ℕ) → IsWithinGap 0 bound cost → bound ≤ cost → bound ≡ cost
 no_gap bound cost near within = omega (arith, near, within)
 
--- the goal is at most the cost
+-- the cutoff is at most the cost
 pub goal_least : (gap cost : ℕ) → goal_of gap cost ≤ cost
 goal_least gap cost = omega arith
 
@@ -31,7 +31,7 @@ within_lower gap cost lower bound most less below near = by_parts (cost - lower)
         let all : most_gap * (lower + above - bound) ≤ gap * (lower + above) = rw (← same) near in
         omega (arith, parts, high, all, below)
 
--- what leaves close stays within the gap, where the incumbent's cost falls
+-- the cutoff at which leaves fathom stays within the gap, where the incumbent's cost falls
 pub fallen_within : (gap cost lower : ℕ) (left : Option ℕ) → gap ≤ most_gap → lower ≤ cost → IsWithinGap gap (lesser cost left) cost
     → IsWithinGap gap (lesser lower left) lower
 fallen_within gap cost lower None most less near = all_within gap lower lower (omega arith)
@@ -43,7 +43,7 @@ fallen_within gap cost lower (Some m) most less near =
     omega (arith, now))
     (λ above. all_within gap lower (lesser lower (Some m)) (omega (arith, above))) (cases_lt m lower)
 
--- and where a leaf says no less than the goal
+-- and where one more leaf's bound is no less than the cutoff
 pub left_within : (gap cost bound : ℕ) (left : Option ℕ) → goal_of gap cost ≤ bound → IsWithinGap gap (lesser cost left) cost
     → IsWithinGap gap (lesser cost (Some (lesser bound left))) cost
 left_within gap cost bound None least near = let one = goal_within gap cost bound least in omega (arith, one)

@@ -1,4 +1,4 @@
--- The sums of kept cuts.
+-- The sums of stored cuts.
 use Rattle.std.proofs.Common.{◌≡◌, ℕ, ◌+◌, ◌-◌, ◌<◌, ◌≤◌, List, [], ◌∷◌, ◌++◌, length, map, get_or, All, take, drop, slice_range, refl, sym, ap, ap₂, subst, ◌∙◌, arith}
 use Rattle.std.proofs.Math.Seq.{drop-cons}
 use Rattle.std.proofs.lemmas.List.{length-map, get_or-map, map_push, take-map, drop-map}
@@ -21,7 +21,7 @@ one_item xs i d low =
     let one : i + 1 - i ≡ 1 = omega arith in
     ap (λ (n : ℕ). take n (drop i xs)) one ∙ ap (take 1) (drop-cons xs i d low)
 
--- ---- the part of a cut that is made anew
+-- ---- the part of a cut that is computed again
 
 part_is_one : (k : Kept) → IsRemade k → kept_part k ≡ 1
 part_is_one (by_values rows) own = refl
@@ -38,7 +38,7 @@ kept_are_whole p (k ∷ ks) own =
     All-cons (λ (cut : Cut). cut.part ≡ 1) (kept_cut p k) (kept_cuts p ks) (kept_whole p k (All-head IsRemade k ks own))
     (kept_are_whole p ks (All-tail IsRemade k ks own))
 
--- ---- the numbers of a kept cut
+-- ---- the numbers of a stored cut
 
 pub kept_at_number : (p : Problem) (k : KeptList) (c : ℕ) → IsProblem p → AreKeptFor p k → All IsRemade k.cuts → 1 ≤ c → c ≤ length k.cuts
     → AreLentOf p (cut_at (kept_cuts p k.cuts) c) (slice_range k.totals (c - 1) (c - 1 + 1))

@@ -1,4 +1,4 @@
--- The leaf of a branch in which one hub set is left: the cut of the set closes what it costs.
+-- The leaf of a branch in which one hub set is left: the Benders cut from the set fathoms at the set's cost.
 use Rattle.std.proofs.Common.{◌≡◌, ℕ, zero, suc, ◌+◌, ◌<◌, ◌≤◌, List, [], ◌∷◌, ◌++◌, length, take, slice_index, refl, sym, ap, subst, ◌∙◌, mul-le-mul_left, arith}
 use Rattle.hub_spec.specs.Problem.{Problem, IsProblem, opening_cost}
 use Rattle.hub_spec.specs.Plans.{IsHubSet, IsSetCost}
@@ -17,7 +17,7 @@ use Rattle.ascent_search.specs.SingleCuts.{AreLoads, ClosesBy, IsOrderedSet}
 use Rattle.ascent_search.proofs.BranchEnds.{last_closes}
 use Rattle.ascent_search.proofs.KeptSums.{kept_whole}
 
--- the cut of the one set that is left closes what is not above the set's cost
+-- the Benders cut from the one set that is left fathoms at each cutoff that is not above the set's cost
 pub last_set_closes : (p : Problem) (b : Branching) (set : List ℕ) (ordered : OrderedSet) (cost target : ℕ) → IsProblem p → IsBranch p b
     → HasRoom p.wanted b → IsLastSet p b set → IsOrderedSet p set ordered → IsSetCost p set cost → target ≤ cost
     → ClosesBy p (set_cut p ordered.set ordered.order.items) target b
@@ -42,7 +42,7 @@ cost_by_sums : (p : Problem) (hubs order : List ℕ) (sum : ℕ) → IsProblem p
 cost_by_sums p hubs order sum ok set is_order is_sum =
     let by = set_cost_by_sums p hubs order ok set is_order in subst (IsSetCost p hubs) (by.by_sums ∙ omega (arith, is_sum)) by.is_cost
 
--- the same of an ordered set, from the sums of a bench
+-- the same of an ordered set, by the sums in a workspace
 pub ordered_cost : (p q : Problem) (set : List ℕ) (ordered : OrderedSet) (order loads : List ℕ) (sum : ℕ) → q ≡ p → order ≡ ordered.order.items
     → IsProblem p → IsOrderedSet p set ordered → AreLoads q (set_cut q ordered.set order) sum loads
     → IsSetCost p ordered.set (sum + opening_cost p ordered.set)

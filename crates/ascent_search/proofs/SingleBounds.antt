@@ -102,7 +102,7 @@ on_cut p cut m on =
       few_weights = omega (arith, ap length on.weights_are);
     }
 
--- the bound by these weights, as they are lent
+-- the bound by these weights, as arguments
 lent_bound : (p : Problem) (cuts : List Cut) (m : lent.Weighting) (ws : List ℕ) (b : Branching) → IsProblem p
     → IsBranch p b → IsWeightingOf p cuts (weighting_of m) → m.weights.now ≡ ws
     → m.denom ≡ denominator → bound_for p.wanted (weighting_of m) b ≡ leaf_bound p cuts denominator (weight_pairs ws) b

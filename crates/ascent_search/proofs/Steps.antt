@@ -183,7 +183,7 @@ at_done t b before middle after at done = record {
       (at.stopped ∙ none);
 }
 
--- what advice comes to, told of what stood before the advice was taken
+-- the result of a heuristic's proposal, seen from an earlier state with the same lines and nodes
 pub at_advised : (t : Task) (b : Branching) (before middle after : Progress) (ended : Bool) → IsAt t before middle → IsAdvised t b middle after ended
     → IsAdvised t b before after ended
 at_advised t b before middle after true at done = at_done t b before middle after at done

@@ -1,4 +1,4 @@
--- What the parts of a bench stand for.
+-- What the parts of the workspace stand for.
 use Rattle.std.specs.Prelude.{◌≤◌}
 use Rattle.ascent_search.specs.Benches.{BenchState, IsPricingFor}
 use Rattle.ascent_search.specs.declared.bench.Bench.TheInside.{Inside}

@@ -14,14 +14,15 @@ use Rattle.cut_pool.specs.Findings.{IsUnlimited}
 abbrev pub IsEndLine : TreeLine → Type 0
 IsEndLine line = (b : Branching) (pending : List Branching) → filled b line pending ≡ pending
 
--- the line ends the branch, whatever the cuts and the target are: no wanted hub set is left in it
+-- the line ends the branch, whatever the cuts and the cutoff are: no wanted hub set is left in it
 pub record IsBarren (p : Problem) (b : Branching) (line : TreeLine) : Type 0 where
   pub sound : (cuts : List Cut) (target : ℕ) → IsSoundLine p cuts target b line
   pub end : IsEndLine line
   pub in_range : IsLineInRange p.size line
   pub first : IsUnlimited p → IsFirstLine line
 
--- the branch has no end: it has room for the wanted hubs, and its hubs with all its free nodes lack no commodity
+-- The branch has no end. It has room for the wanted hubs, and its hubs with all its free nodes are feasible for each
+-- commodity.
 pub record IsOpen (p : Problem) (b : Branching) : Type 0 where
   pub room : HasRoom p.wanted b
   pub barren : barren_end p.wanted b ≡ None

@@ -22,7 +22,7 @@ use Rattle.ascent_search.specs.declared.progress.Progress.{Progress}
 abbrev pub cuts_of : Problem → Progress → List Cut
 cuts_of p s = kept_cuts p s.cuts.cuts
 
--- what its leaves close
+-- the cutoff at which its leaves fathom
 abbrev pub target_of : Progress → ℕ
 target_of s = lesser s.cost s.left
 
@@ -30,11 +30,11 @@ target_of s = lesser s.cost s.left
 abbrev pub WalksTo : Problem → Progress → List Branching → List Branching → Type 0
 WalksTo p s first last = Walks p (cuts_of p s) (target_of s) first (lines_of s.lines.items) last
 
--- its lines prove this target: they lead from the first branches to some others, each sound for it
+-- its lines prove this cutoff: they lead from the first branches to some others, and each is sound for it
 abbrev pub Proves : Problem → Progress → List Branching → ℕ → Type 0
 Proves p s first target = (other : List Branching) × Walks p (cuts_of p s) target first (lines_of s.lines.items) other
 
--- the target is no more than what leaves say, where one says anything
+-- the cutoff is no more than what leaves say, where one says anything
 abbrev pub Says : ℕ → Option ℕ → Type 0
 Says target left = IfSome left (λ low. target ≤ low)
 
@@ -43,7 +43,7 @@ abbrev pub KeepsBest : Problem → List Branching → Progress → Progress → 
 KeepsBest p first before after = (target : ℕ) → Proves p after first target
     → Proves p before first target × (Says target before.left → Says target after.left)
 
--- what a search begins with that is given nothing: all candidates, or as many of the least as are wanted
+-- what a search begins with where it gets no hubs: all candidates, or exactly p of the least
 pub record AreFirstHubs (p : Problem) (hubs : List ℕ) : Type 0 where
   pub set : IsWantedSet p hubs
   pub are : hubs ≡ first_hubs p
@@ -53,17 +53,19 @@ pub record IsWantedAs (p : Problem) (nodes set : List ℕ) : Type 0 where
   pub same : set ≡ nodes
   pub wanted : IsWantedSet p set
 
--- the first incumbent of a task: a hub set that is wanted, with its cost, which is at most that of these hubs, and of the task's first
--- nodes, where they are such a set
+-- the first incumbent of a task: a hub set that is wanted, with its cost, which is at most that of these hubs, and of
+-- the task's first nodes, where they are such a set
 pub record IsFirst (t : Task) (hubs : List ℕ) (cost : ℕ) : Type 0 where
   pub set : IsWantedSet t.instance.now hubs
   pub is_cost : IsSetCost t.instance.now hubs cost
   pub at_most : IsAtMostOf t.instance.now (first_hubs t.instance.now) cost
   pub given : IsAtMostOf t.instance.now t.first.now cost
 
--- what holds at each step: of the task, of the cuts, each of which is made anew, the lines, which each version spells where nothing
--- is limited, and the incumbent, which has as many hubs as are wanted and costs at most what those do with which each search begins,
--- and what the task's first nodes do, of the nodes, and of the gap: unless the search stopped, what its leaves close is within it
+-- What holds at each step. The search can compute each of its cuts again. Where neither the number of hubs nor the
+-- length of routes is limited, each version of the format can spell the lines. The incumbent has the wanted number of
+-- hubs. It costs at most what the hubs cost with which each search begins. It costs at most what the task's first
+-- nodes cost, where they are a wanted hub set. No more nodes are made than are allowed. Unless the search stopped,
+-- the cutoff at which its leaves fathom is within the gap.
 pub record IsGoing (t : Task) (s : Progress) : Type 0 where
   pub problem : IsProblem t.instance.now
   pub kept : AreKeptFor t.instance.now s.cuts
@@ -97,8 +99,8 @@ pub record IsAt (t : Task) (before after : Progress) : Type 0 where
 abbrev pub MayBeWhole : Task → Branching → Progress → Type 0
 MayBeWhole t b s = IsEnough (s.made + 2 ^ (length b.free + 1) - 1) t.nodes
 
--- the branch has been filled, with a line for each node that was made, and one for the branch itself: no more than a whole
--- tree has, and without a stop where a whole tree is allowed
+-- the branch has been filled, with a line for each node that was made, and one for the branch itself: no more than a
+-- whole tree has, and without a stop where a whole tree is allowed
 pub record IsDone (t : Task) (b : Branching) (before after : Progress) : Type 0 where
   pub going : IsGoing t after
   pub walks : (first pending : List Branching)
@@ -108,7 +110,7 @@ pub record IsDone (t : Task) (b : Branching) (before after : Progress) : Type 0 
   pub most : after.made + 2 ≤ before.made + 2 ^ (length b.free + 1)
   pub enough : MayBeWhole t b before → before.stopped ≡ false → after.stopped ≡ false
 
--- the line was added at the branch: whatever target the lines prove with it, it is sound there for that target
+-- the line was added at the branch: whatever cutoff the lines prove with it, it is sound there for that cutoff
 abbrev pub IsLastLine : Task → Branching → TreeLine → Progress → Progress → Type 0
 IsLastLine t b line before after = (first pending : List Branching) (target : ℕ) → WalksTo t.instance.now before first (b ∷ pending)
     → Proves t.instance.now after first target → IsSoundLine t.instance.now (cuts_of t.instance.now before) target b line
@@ -124,13 +126,13 @@ pub record IsHalved (t : Task) (b : Branching) (k : ℕ) (before after : Progres
   pub made : after.made ≡ before.made + 2
   pub stopped : after.stopped ≡ before.stopped
 
--- advice was taken: the branch has been filled, or the search goes on, and two nodes more are allowed
+-- a heuristic made its proposal: the branch has been filled, or the search goes on, and two nodes more are allowed
 abbrev pub IsAdvised : Task → Branching → Progress → Progress → Bool → Type 0
 IsAdvised t b before after true = IsDone t b before after
 IsAdvised t b before after false = IsAt t before after × AreWithin t.nodes (after.made + 2)
 
--- the lines lead from the root to the end, one for each node; no more than a whole tree has, and no stop came where as many
--- are allowed
+-- the lines lead from the root to the end, one for each node; no more than a whole tree has, and no stop came where
+-- as many are allowed
 pub record IsOver (t : Task) (s : Progress) : Type 0 where
   pub going : IsGoing t s
   pub walks : WalksTo t.instance.now s (root t.instance.now ∷ []) []

@@ -19,7 +19,7 @@ pub record AreLoads (p : Problem) (cut : Cut) (sum : ℕ) (loads : List ℕ) : T
   pub long : length loads ≡ p.size
   pub are_loads : (k : ℕ) → k < p.size → slice_index loads k ≡ load cut k
 
--- the total, the loads and the part of the cut as they are lent, each in a list of one
+-- the total, the loads and the part of the cut as arguments, each in a list of one
 pub record AreLentOf (p : Problem) (cut : Cut) (totals : List ℕ) (rows : List (List ℕ)) (parts : List ℕ) : Type 0 where
   pub sum : ℕ
   pub loads : List ℕ
@@ -48,7 +48,7 @@ pub record IsOnNone (p : Problem) (m : lent.Weighting) : Type 0 where
 abbrev pub cut_bound : Problem → Cut → Branching → ℤ
 cut_bound p cut b = leaf_bound p (cut ∷ []) denominator (whole_on 1) b
 
--- the cut alone closes the target in the branch
+-- the cut alone fathoms the branch at the cutoff
 abbrev pub ClosesBy : Problem → Cut → ℕ → Branching → Type 0
 ClosesBy p cut target b = Closes denominator target (cut_bound p cut b)
 

@@ -19,8 +19,8 @@ const ROOT_PASSES: u32 = 60;
 const PASSES: u32 = 15;
 
 impl<R: Threads + Sync, A: Advice + Drop> Walker<'_, R, A> {
-    /// Makes ascent passes at the branch, and returns whether that ended it: with a leaf on the cut of the values, or
-    /// with a stop where two more nodes are not allowed.
+    /// Makes ascent passes at the branch, and returns whether that ended it. It ends with a leaf on the Benders cut
+    /// from the dual values, or with a stop where two more nodes are not allowed.
     pub(crate) fn end_by_advice(&mut self, branch: &Branch) -> Result<bool, AllocError>
         requires walking { IsWalking self.old.walk }
         requires branch { IsBranch self.old.walk.task.now.instance.now branch.now }

@@ -75,7 +75,7 @@ impl<'a> Bench<'a> {
         Ok(self.pricing.sum(&self.tables, some_open))
     }
 
-    /// The stored form of the cut of the values, from which it can be computed again.
+    /// The stored form of the Benders cut from the last dual values, from which it can be computed again.
     pub(crate) fn kept_values(&self, alloc: Global) -> Result<KeptCut, AllocError>
         ensures { IfOk result (λ cut. kept_of cut ≡ by_values self.now.values) }
     {

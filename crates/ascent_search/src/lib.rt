@@ -1,11 +1,11 @@
 //! Branch and bound on exact Benders cuts made from heuristic dual values, the search of `optimize`.
 //!
-//! [`optimize`] walks the tree depth first, the open child first. At a node a heuristic (`search_advice`) improves hub
-//! sets and dual values, and the cut of the values (`value_cuts`) is exact whatever they are. Near the optimum of the
-//! linear relaxation one such cut fathoms the node at the incumbent's cost; else the search branches. A branch with one
-//! hub set left ends on the cut of that set, which is tight there. A branch with no wanted hub set left ends without a
-//! cut (`ends`). With a limit on nodes the search stops where two more are not allowed, and each pending branch becomes
-//! a leaf.
+//! [`optimize`] walks the tree depth first, the open child first. At a node a heuristic (`search_advice`) improves
+//! hub sets and dual values. The Benders cut from the values (`value_cuts`) is exact whatever they are. Near the
+//! optimum of the linear relaxation one such cut fathoms the node at the incumbent's cost; else the search branches.
+//! A branch with one hub set left ends on the Benders cut from that set, which is tight there. A branch with no
+//! wanted hub set left ends without a cut (`ends`). With a limit on nodes the search stops where two more are not
+//! allowed, and each pending branch becomes a leaf.
 //!
 //! With exactly p hubs, bounds are those of `p_hub`. With `--max-length` no infeasible set becomes the incumbent; a
 //! cut's prices are low enough for all allowed routes. [`optimize_within`] stops within a gap of the cost: leaves are

@@ -16,8 +16,8 @@ use std::alloc::AllocError;
 use std::thread::Threads;
 
 impl Walk<'_> {
-    /// Ends the branch with the leaf on the cut of the values, if it fathoms, or with a stop where two more nodes are
-    /// not allowed. Returns whether it did.
+    /// Ends the branch with the leaf on the Benders cut from the values, if it fathoms. Ends it with a stop where two
+    /// more nodes are not allowed. Returns whether it ended the branch.
     pub(crate) fn end_by_values<R: Threads + Sync>(
         &mut self,
         rt: &R,

@@ -1,4 +1,4 @@
--- The start of a search that begins again: given cuts, and hubs that are tried.
+-- The start of a search that begins again: imported cuts, and hubs that are tried.
 use Rattle.std.proofs.Common.{◌≡◌, ℕ, ◌<◌, List, [], ◌∷◌, ◌++◌, length, All, Contains, Bool, true, false, not, is_some, IsTrue, ◌↔◌, Vec, Global, refl, ap, sym, subst, ◌∙◌, true≢false, append-nil, arith}
 use Rattle.std.specs.List.{list_all}
 use Rattle.std.proofs.lemmas.List.{length_push}
@@ -29,9 +29,9 @@ use Rattle.search_steps.specs.declared.progress.Progress.{Progress}
 use Rattle.search_steps.specs.Progressing.{state_of, IsGoing, IsAt}
 use Rattle.search_steps.proofs.Orders.{parts_ascending}
 
--- ---- given cuts
+-- ---- imported cuts
 
--- the entry of a given cut has its sums
+-- the entry of an imported cut has its sums
 given_sums : (p : Problem) (cut : Cut) → IsCut p cut → IsCutInRange p.size cut → IsSumsOf p (given_entry p.size cut)
 given_sums p cut is range = record {
   pooled = tt;
@@ -41,7 +41,7 @@ given_sums p cut is range = record {
   are_loads = λ k node. get_or-map-range_with_len (load cut) 0 p.size k k 0 node (omega arith);
 }
 
--- the search goes on with one given cut more
+-- the search goes on with one imported cut more
 pub given_at : (t : Task) (before after : Progress) (cut : Cut) → IsGoing t before → length before.pool.entries < most_cuts
     → IsCut t.instance.now cut → IsCutInRange t.instance.now.size cut
     → after.pool.entries ≡ before.pool.entries ++ given_entry t.instance.now.size cut ∷ []
@@ -76,7 +76,7 @@ given_none s =
     let marks = append-nil s.marks in
     λ i. record s { sets = sets i; cuts = cuts i; marks = marks i }
 
--- no cut was given yet
+-- no cut was imported yet
 pub given_none_at : (t : Task) (s : Progress) → IsGoing t s → IsAt t s s (with_given [] (state_of t.instance.now s))
 given_none_at t s going = record {
   state = sym (given_none (state_of t.instance.now s));
@@ -85,7 +85,7 @@ given_none_at t s going = record {
   kept = grown_same s.pool.entries;
 }
 
--- one given cut after some
+-- one imported cut after some
 pub given_next : (t : Task) (before middle after : Progress) (cuts : List Cut) (cut : Cut)
     → IsAt t before middle (with_given cuts (state_of t.instance.now before))
     → IsAt t middle after (with_given (cut ∷ []) (state_of t.instance.now middle))
@@ -101,13 +101,13 @@ given_next t before middle after cuts cut some one =
 
 -- ---- hubs that are tried
 
--- whether all are candidates, by what is told of it
+-- whether all are candidates, by the result of a test
 pub all_told : (ks hubs : List ℕ) (told : Bool) → IsTrue told ↔ All (Contains ks) hubs → list_all (has_node ks) hubs ≡ told
 all_told ks hubs true both = all_has ks hubs (both.0 refl)
 all_told ks hubs false both =
     by_test (list_all (has_node ks) hubs) (λ e. absurd (true≢false (sym (both.1 (all_in ks hubs e))))) (λ e. e)
 
--- the hubs of a set are candidates, as is told
+-- whether the hubs of a set are candidates, by the result of a test
 pub candidates_told : (p : Problem) (set nodes members : List ℕ) (told : Bool) → nodes ≡ p.candidates → members ≡ set
     → IsTrue told ↔ All (Contains nodes) members → list_all (has_node p.candidates) set ≡ told
 candidates_told p set nodes members told same_nodes same_members both =

@@ -23,7 +23,7 @@ IsFirst tree = All IsFirstLine (preorder tree)
 abbrev AllFirst : Handling → Type 0
 AllFirst go = (b : Branching) (w : List (ℕ × ℕ)) (s : State) → IsFirst (go b w s).tree
 
--- the ends by numbers are so, and a branch with none of them lacks no commodity
+-- the ends by numbers are so, and a branch with none of them is feasible for each commodity
 record EndsFirst (parts : Parts) : Type 0 where
   barren : (b : Branching) (t : Tree) → parts.barren b ≡ Some t → IsFirst t
   blocked : (b : Branching) → parts.barren b ≡ None → parts.blocked b ≡ None

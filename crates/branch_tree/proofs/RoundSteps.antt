@@ -20,7 +20,7 @@ or_second false y is = is
 or_neither : (x y : Bool) → x ≡ false → y ≡ false → (x || y) ≡ false
 or_neither x y first second = ap (λ (b : Bool). b || y) first ∙ second
 
--- what the code's round takes: the advice, the better weights, and the set that is picked
+-- what the code's round uses: the master's weights and point, the better weights, and the set that is picked
 pub record IsTaken (p : Problem) (b : Branching) (w : List (ℕ × ℕ)) (s : State) (advised : Advice) (best : List (ℕ × ℕ)) : Type 0 where
   pub advice : advised ≡ master_advising p s b
   pub weights : best ≡ better p s b w advised.weights

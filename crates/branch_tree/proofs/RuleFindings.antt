@@ -72,7 +72,7 @@ minimal_no_mark : (p : Problem) → HasNoMark (parts_for minimal p)
 unfolding rule_parts
 minimal_no_mark p set = refl
 
--- each cut that the rule finds without core cuts is made anew: it is of a set, and not marked
+-- each cut that the rule finds without Pareto-optimal cuts is made from scratch: it is from a hub set, and not marked
 minimal_remade : (p : Problem) (n : Option ℕ) (found : Found) → IsSearchable p → IsFound p (found_by minimal p n) found → AreRemade found
 minimal_remade p n found ok is =
     let parts = parts_for minimal p in

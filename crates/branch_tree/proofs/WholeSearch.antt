@@ -18,7 +18,7 @@ pub again_from : (kind : CutKind) (p : Problem) (n : Option ℕ) (start : Start)
     → searched p (parts_for kind p) n s ≡ found_again kind p n start
 again_from kind p n start s begun = ap (searched p (parts_for kind p) n) begun
 
--- without core cuts
+-- without Pareto-optimal cuts
 pub found_is_rule : (p : Problem) (n : Option ℕ) → found_by minimal p n ≡ rule p (master_advising p) n
 unfolding rule
 found_is_rule p n = refl

@@ -14,7 +14,7 @@ use Rattle.cut_pool.specs.Findings.{IsUnlimited, IsProved}
 use Rattle.cut_pool.specs.declared.found.Found.{Found}
 use Rattle.search_steps.specs.Findings.{IsFound}
 
--- what the rule finds with the master's advice and these cuts, where this is the most nodes
+-- what the rule finds with the master's weights and point and these cuts, where this is the most nodes
 abbrev pub found_by : CutKind → Problem → Option ℕ → Grown
 found_by kind p n = searched p (parts_for kind p) n (begun_for p (parts_for kind p) p.wanted)
 
@@ -22,12 +22,12 @@ found_by kind p n = searched p (parts_for kind p) n (begun_for p (parts_for kind
 abbrev pub found_again : CutKind → Problem → Option ℕ → Start → Grown
 found_again kind p n start = searched p (parts_for kind p) n (begun_again p (parts_for kind p) start)
 
--- without core cuts these are what the search's definition has as the rule
+-- without Pareto-optimal cuts these are what the search's definition has as the rule
 abbrev pub WithoutCoreCuts : Type 0
 WithoutCoreCuts = (p : Problem) (n : Option ℕ) (start : Start)
     → (found_by minimal p n ≡ rule p (master_advising p) n) × (found_again minimal p n start ≡ rule_again p (master_advising p) n start)
 
--- what the rule finds is proved by its certificate, where all candidates together lack no commodity
+-- what the rule finds is proved by its certificate, where all candidates together are feasible for each commodity
 abbrev pub SearchIsProved : Type 0
 SearchIsProved = (kind : CutKind) (p : Problem) (n : Option ℕ) (found : Found) → IsProblem p → IsHubSet p p.candidates
     → IsFound p (found_by kind p n) found

@@ -135,8 +135,8 @@ fn give_one(
     Ok(())
 }
 
-// Separates the hubs over the ascending order of the other candidates, if they are to be tried. They become the incumbent
-// if they cost less.
+// Separates the hubs over the ascending order of the other candidates, if they are to be tried. They become the
+// incumbent if they cost less.
 fn try_hubs<S: Separator>(
     alloc: Global,
     task: &Task,
@@ -160,8 +160,8 @@ fn try_hubs<S: Separator>(
     separate(alloc, task, progress, separator, set, order)
 }
 
-// Tells whether the set is to be tried: its hubs are candidates, are feasible for each commodity and are as many as are
-// wanted, and it has no cut yet.
+// Tells whether the set is to be tried. Its hubs must be candidates, be feasible for each commodity and have the wanted
+// number, and it must have no cut yet.
 fn is_tried(task: &Task, progress: &Progress, set: &HubSet) -> bool
     ensures is { let p = task.now.instance.now in result ≡ is_tried p (state_of p progress.now) set.now }
     ensures first_time { IsTrue result → Lacks progress.now.pool.entries set.now }

@@ -62,8 +62,8 @@ impl<R: Rule> Walk<'_, R> {
         add_line(&mut self.progress, line)
     }
 
-    /// Adds the leaf of a branch in which the set of these hubs alone is left: it is on the cut of the set, which is
-    /// separated first unless it is known.
+    /// Adds the leaf of a branch in which the set of these hubs alone is left. The leaf uses the Benders cut from this
+    /// set, which is separated first unless it is known.
     pub(crate) fn full_leaf<S: Separator>(
         &mut self,
         separator: &mut S,

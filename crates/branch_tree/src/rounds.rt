@@ -17,8 +17,8 @@ use pareto_cuts::order_of;
 use search_steps::{Rule, Separator, node_advice, number_of};
 use std::alloc::AllocError;
 
-/// What a round leaves: the weights on the first cuts, in 10^-6, the advice that it took, and whether another round may
-/// follow.
+/// The end of a round: the weights on the first cuts, in 10^-6, the weights and point of the master that it used, and
+/// whether another round may follow.
 #[derive(Drop)]
 pub(crate) struct RoundEnd {
     pub(crate) weights: Vec<u128>,
@@ -78,8 +78,8 @@ impl<R: Rule> Walk<'_, R> {
         self.round(separator, branch, &last.weights)
     }
 
-    // One round: the set that the advice picks is separated, unless the weights close the incumbent's cost or the set is
-    // known.
+    // One round: separates the set that the master's point picks. It does not where the weights fathom the branch at
+    // the incumbent's cost, or where the set is known.
     fn round<S: Separator>(
         &mut self,
         separator: &mut S,

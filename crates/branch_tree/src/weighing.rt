@@ -15,7 +15,7 @@ use search_steps::{NodeWeights, Rule, closes, is_better};
 use std::alloc::AllocError;
 
 impl<R: Rule> Walk<'_, R> {
-    /// The advised weights if their bound is above that of the present ones, else the present ones.
+    /// The master's weights if their bound is above that of the present ones, else the present ones.
     pub(crate) fn better_weights(
         &self,
         branch: &Branch,

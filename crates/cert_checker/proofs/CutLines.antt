@@ -1,4 +1,5 @@
--- The items that end a line that begins a cut, or count the lines of the tree, in the lines of the bytes that give them.
+-- The items that end a line that begins a cut, or count the lines of the tree, in the lines of the bytes that give
+-- them.
 use Rattle.std.proofs.Common.{◌≡◌, ℕ, ◌+◌, ◌<◌, ◌≤◌, List, [], ◌∷◌, ◌++◌, length, take, drop, flat_map, ⊎_elim, refl, sym, ap, subst, ◌∙◌, append_assoc, append-nil, length-append, lt_of_not-le, arith}
 use Rattle.std.specs.Prelude.{All, Contains}
 use Rattle.std.proofs.lemmas.List.{take_at, take-append-le, take-append-drop, drop_more}
@@ -114,7 +115,7 @@ items_of_lines : (lines : List Line) (stage : Stage) (rest : List ℕ) → Leads
 items_of_lines lines stage rest lead =
     given_all-append new_scan (flat_map line_bytes lines) rest ∙ ap (λ g. g ++ items_behind (flat_map line_bytes lines) rest) (lines_give lines stage lead)
 
--- bytes that are no fewer than a front of them and others begin with it
+-- where bytes and others begin with a text that is no longer than these bytes, the bytes begin with it
 begins_with : (bytes piece text rest : List ℕ) → bytes ++ piece ≡ text ++ rest → length text ≤ length bytes → bytes ≡ text ++ drop (length text) bytes
 begins_with bytes piece text rest e long =
     sym (take-append-drop (length text) bytes) ∙ ap (λ t. t ++ drop (length text) bytes)

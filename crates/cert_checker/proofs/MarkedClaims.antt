@@ -1,4 +1,4 @@
--- What is asked of the duals of a marked cut, whose proofs are passed over.
+-- The conditions on the duals of a marked cut, whose proofs are passed over.
 use Rattle.std.proofs.Common.{◌≡◌, ℕ, zero, suc, ◌+◌, ◌-◌, ◌*◌, ◌<◌, ◌≤◌, nat_eq, false, List, [], ◌∷◌, length, get_or, inl, inr, refl, sym, ap, subst, eq-eqb, ne_eqb, arith}
 use Rattle.hub_spec.specs.Problem.{Problem, commodity_at}
 use Rattle.hub_spec.specs.Cuts.{Prices, IsDual, Cut, IsWithinSums}

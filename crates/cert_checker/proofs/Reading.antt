@@ -14,7 +14,7 @@ use Rattle.cert_checker.proofs.Ends.{marks_shown}
 use Rattle.cert_checker.proofs.Judged.{shown}
 use Rattle.cert_checker.proofs.TooLong.{too_long_held}
 
--- what a shelf tells of a file that it begins is told of what is left
+-- where a shelf knows a file that it begins, it is known what is left of the file
 pub told_first : (held : Option Files) (name : List ℕ) (first : Option (List ℕ)) → Starts held name first → TellsOf held name → IsSome first
 told_first None name first starts tells = absurd tells
 told_first (Some files) name first starts tells = starts.0
@@ -94,6 +94,6 @@ judged_over p q held name first last (Ok e) ok same starts ends =
     verdict_over p held name first last (verdict_of e) ok starts (subst (λ (x : Problem). EndsOver x first last (verdict_of e)) same ends)
 judged_over p q held name first last (Err e) ok same starts ends = tt
 
--- a front of a piece behind what was read
+-- a prefix of a piece behind what was read
 pub read_more : (bytes piece : List ℕ) (n : ℕ) → n ≤ length piece → length (bytes ++ take n piece) ≡ length bytes + n
 read_more bytes piece n within = length-append bytes (take n piece) ∙ ap (λ m. length bytes + m) (length-take-le n piece within)

@@ -6,7 +6,7 @@ use Rattle.hub_spec.specs.Problem.{Problem}
 use Rattle.cert_spec.specs.Verdicts.{too_long, certificate_limit}
 use Rattle.cert_checker.specs.Held.{IsVerdictOnHeld}
 
--- more bytes than the limit, of which nothing is told
+-- some bytes, more of them than the limit
 bytes_over : (limit : ℕ) → (bytes : List ℕ) × (limit < length bytes)
 bytes_over limit = (replicate (limit + 1) 0, (let e = length-replicate {A = ℕ} (limit + 1) 0 in omega (arith, e)))
 

@@ -32,7 +32,8 @@ IsVerdict p k answer.TheVariants.Optimal = AllHold (conditions p k) × (k.proof.
 IsVerdict p k answer.TheVariants.Bounds = AllHold (conditions p k) × (k.proof.bound < k.proof.cost)
 IsVerdict p k (answer.TheVariants.No kind line) = FailsFirst (conditions p k) (kind_of kind) line
 
--- where the verdict is for the certificate, it holds for the instance, marks and all, and no plan costs less than its bound
+-- where the verdict is for the certificate, it holds for the instance, marks and all, and no plan costs less than its
+-- bound
 abbrev pub ShowsBound : Problem → Stated → answer.Verdict → Type 0
 ShowsBound p k answer.TheVariants.Optimal = IsStatedOf p k × NoPlanBelow p k.proof.bound
 ShowsBound p k answer.TheVariants.Bounds = IsStatedOf p k × NoPlanBelow p k.proof.bound
@@ -44,7 +45,7 @@ ShowsOptimal p k answer.TheVariants.Optimal = IsOptimal p k.proof.plan
 ShowsOptimal p k answer.TheVariants.Bounds = Unit {0}
 ShowsOptimal p k (answer.TheVariants.No kind line) = Unit {0}
 
--- where the verdict is for the certificate, its marked cuts say as much as a cut can
+-- where the verdict is for the certificate, its marked cuts are Pareto-optimal
 abbrev pub ShowsMarks : Problem → Stated → answer.Verdict → Type 0
 ShowsMarks p k answer.TheVariants.Optimal = AreUndominated p k
 ShowsMarks p k answer.TheVariants.Bounds = AreUndominated p k

@@ -1,4 +1,4 @@
--- What the check of a text comes to, what that proves of the plan that the text names, and what is said of an older text.
+-- The result of the check of a text, what it proves of the plan that the text names, and what is said of an older text.
 use Rattle.std.specs.Prelude.{◌≡◌, ℕ, List, Option, Some, None, Contains}
 use Rattle.hub_spec.specs.Problem.{Problem}
 use Rattle.hub_spec.specs.Plans.{IsPlan, IsOptimal, NoPlanBelow, plan_cost}
@@ -67,7 +67,7 @@ Proves p bytes (optimal cost) = ProvesOptimal p bytes cost
 Proves p bytes (bounds bound cost) = ProvesBound p bytes bound cost
 Proves p bytes verdict = Unit {0}
 
--- the marked cuts of what the bytes spell say as much as a cut can: none of the problem that is tight at the hubs of the
+-- the marked cuts of what the bytes spell are Pareto-optimal: no cut of the problem that is tight at the hubs of the
 -- mark, whatever its part, dominates one
 abbrev pub MarksAreUndominated : Problem → List ℕ → Type 0
 MarksAreUndominated p bytes = (k : Stated) (x y : Cut) (mark : Mark) → Spells bytes k → Contains (cuts_of k) (x, Some mark)

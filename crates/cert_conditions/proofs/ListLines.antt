@@ -116,7 +116,7 @@ all_items l some = absurd some
 
 -- ---- what stands so far may stand there
 
--- what holds of a list, and of each list without its last element, holds of its fronts
+-- what holds of a list, and of each list without its last element, holds of its prefixes
 front_closed : {X : Type 0} (P : List X → Type 0) → ((front : List X) (x : X) → P (front ++ x ∷ []) → P front) → (front rest : List X)
     → P (front ++ rest) → P front
 front_closed P pop front [] h = subst P (append-nil front) h

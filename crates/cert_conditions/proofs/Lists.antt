@@ -14,7 +14,7 @@ by_last (x ∷ xs) =
       | inr h ↦ inr (x ∷ h.0, h.1, ap (λ l. x ∷ l) h.2)
     ]
 
--- the front of an ascending list ascends, and its last is above the others
+-- a prefix of an ascending list ascends, and its last is above the others
 pub ascend_front : (front : List ℕ) (x : ℕ) → IsStrictlyIncreasing (front ++ x ∷ []) → IsStrictlyIncreasing front
 ascend_front front x up k below =
     let long = length-append front (x ∷ []) in

@@ -105,7 +105,7 @@ last-is front last d = ap (λ i. get_or (front ++ last ∷ []) i d) (at_last fro
 pub set-last : (front : List CutTally) (last x : CutTally) → set (front ++ last ∷ []) (length (front ++ last ∷ []) - 1) x ≡ front ++ x ∷ []
 set-last front last x = ap (λ i. set (front ++ last ∷ []) i x) (at_last front last) ∙ set-append_seam front last [] x
 
--- the last of these is written anew
+-- the last of these is replaced
 pub last_written : (items front : List CutTally) (last d read new : CutTally) (n run : ℕ) (dual : Prices) → n ≡ length items
     → items ≡ front ++ last ∷ [] → read ≡ get_or items (n - 1) d → IsRunAdded read run dual new
     → (later : CutTally) × IsRunAdded last run dual later × (set items (n - 1) new ≡ front ++ later ∷ [])

@@ -112,7 +112,7 @@ none_left-push : {X : Type 0} (front : List X) (x : X) → none_left (front ++ x
 none_left-push [] x = refl
 none_left-push (y ∷ front) x = refl
 
--- ---- the front of what is in range
+-- ---- prefixes of what is in range
 
 pub hubs_front : (n : ℕ) (front : List ℕ) (k : ℕ) → IsStrictlyIncreasing (front ++ k ∷ []) × All (λ (m : ℕ). m < n) (front ++ k ∷ [])
     → IsStrictlyIncreasing front × All (λ (m : ℕ). m < n) front

@@ -19,7 +19,7 @@ fails_before [] ys kind line h = absurd h
 fails_before (x ∷ xs) ys kind line (inl h) = inl h
 fails_before (x ∷ xs) ys kind line (inr h) = inr (h.0, fails_before xs ys kind line h.1)
 
--- what is told of conditions that all hold, and of those that were tried behind them
+-- the result for conditions that all hold, and for those that were tried behind them
 pub tells_more : (xs ys : List Claim) (found : Option code.Kind) (line : ℕ) → AllHold xs → Tried ys found line → TellsFirst (xs ++ ys) (failed_at line found)
 tells_more xs ys None line h k = all_hold xs ys h k
 tells_more xs ys (Some kind) line h k = fails_later xs ys (kind_of kind) line h k
@@ -29,7 +29,7 @@ pub tried_behind : (kind : Kind) (n m : ℕ) (P : Type 0) (cs : List Claim) (fou
 tried_behind kind n m P cs None h t = (h, t)
 tried_behind kind n m P cs (Some k) h t = inr (h, t)
 
--- two lists whose first conditions come to the same
+-- two lists whose first conditions are equivalent
 pub tried_cons : (kind : Kind) (n o m : ℕ) (P Q : Type 0) (xs ys : List Claim) (found : Option code.Kind) → n ≡ o → (P → Q) → (Q → P)
     → (Q → Tried xs found m → Tried ys found m) → Tried (claim kind n P ∷ xs) found m → Tried (claim kind o Q ∷ ys) found m
 tried_cons kind n o m P Q xs ys None e f g rest h = (f h.0, rest (f h.0) h.1)

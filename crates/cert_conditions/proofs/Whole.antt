@@ -210,7 +210,7 @@ fails_on p front l (Some x) f e h =
     subst (λ cs. TellsFirst cs (Some x)) (sym (conditions-append p at_start front (l ∷ [])))
     (fails_before (conditions_from p at_start front) (conditions_from p (behind p front) (l ∷ [])) (kind_of x.0) x.1 h)
 
--- what is told with one line more
+-- the result with one line more
 told_more : (p : Problem) (front : List Line) (l : Line) (found : Option code.Kind) (line : ℕ) → AllHold (conditions_from p at_start front)
     → Tried (line_conditions p (behind p front) l) found line → TellsFirst (conditions_from p at_start (front ++ l ∷ [])) (failed_at line found)
 told_more p front l found line held tried =

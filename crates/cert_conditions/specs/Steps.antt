@@ -189,7 +189,7 @@ dual_with c listed = record c { dual = listed }
 abbrev pub proof_with : Checks → ProofTally → Checks
 proof_with c proof = record c { mark = record c.mark { proof = proof } }
 
--- the dual that is listed, with these values by node, is a core dual by the proof
+-- the listed dual, with these values by node, is Pareto-optimal by the proof
 abbrev pub proof_tests : Checks → List ℕ → List Claim
 proof_tests c row =
     claim Core c.line (Proves c.mark.hubs (last_of c.cuts).part c.dual.dual.a row c.mark.proof) ∷ []
@@ -248,7 +248,7 @@ count_tests c = claim Count c.line (LacksRoom c.instance.now.wanted (next c.path
 abbrev pub leaf_with : Checks → Tally → Option code.Kind → Checks
 leaf_with c sums failure = record c { leaf = sums; leaf_failure = failure }
 
--- what a leaf's conditions come to behind that of its room
+-- the result of a leaf's conditions after that of its room
 abbrev pub WeightsFound : Checks → Option code.Kind → Type 0
 WeightsFound c found =
     MatchOption c.leaf_failure

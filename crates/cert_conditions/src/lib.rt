@@ -6,12 +6,12 @@
 //!
 //! `Checks` stores what later conditions need:
 //!
-//! - the stated cost and bound, and the sums of the plan
-//! - the part and the sums of each cut, of which the last may be incomplete, and the hubs of its mark
-//! - one dual, the sums of one proof, one path of the tree, and the sums of one leaf
+//! - the stated cost and bound, and the sums of the plan;
+//! - the part and the sums of each cut, of which the last may be incomplete, and the hubs of its mark;
+//! - one dual, the sums of one proof, one path of the tree, and the sums of one leaf.
 //!
-//! A check that holds the certificate in memory gives a line with a list as a whole ([`ListLine`]). For the line of a dual it
-//! may say that the dual is feasible. Such a dual is not tested again.
+//! A check that holds the certificate in memory gives a line with a list as a whole ([`ListLine`]). For the line of a
+//! dual it may say that the dual is feasible. Such a dual is not tested again.
 #![tactic(auto)]
 
 mod checks;

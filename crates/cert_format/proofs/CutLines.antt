@@ -21,7 +21,7 @@ cut_text_by v n c part d cut some is =
 pub length_row_of : (n : ℕ) (d : ℕ × ℕ → Prices) (i : ℕ) → length (row_of n d i) ≡ n
 length_row_of n d i = length-map-range_with_len (λ j. d (i, j)) 0 n
 
--- a dual that is lent
+-- a dual in the row of its origin
 pub row_at : (n : ℕ) (d : ℕ × ℕ → Prices) (i j : ℕ) (e : Prices) → j < n → get_or (row_of n d i) j e ≡ d (i, j)
 row_at n d i j e l = get_or-map-range_with_len (λ j. d (i, j)) 0 n j j e l (omega arith)
 

@@ -73,7 +73,7 @@ module _ {K X : Type 0} {taken : K → Option (List ℕ)} {faults : K → ℕ} w
   list_end {now = now} {between = between} {f = f} {xs = xs} {i = i} h l =
       h.follow now between (Ok tt) (as_text (sym (at_drop_all (flat_map f) xs i l)) (through_none now between))
 
--- a front of a text was put whole, and this is left of it
+-- a prefix of a text was put whole, and this is left of it
 pub record HasPutFront {K : Type 0} (taken : K → Option (List ℕ)) (faults : K → ℕ) (first now : K) (waiting between left whole : List ℕ) : Type 0 where
   pub follow : (last : K) (rest : List ℕ) (s : Result (Unit {0}) Failed) → PutsThrough taken faults now last between rest s left
       → PutsThrough taken faults first last waiting rest s whole

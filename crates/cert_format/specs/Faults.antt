@@ -5,7 +5,7 @@ use Rattle.cert_scan.specs.declared.items.Fault as scan
 use Rattle.cert_format.specs.declared.reader.CertFault.{CertFault}
 use Rattle.cert_format.specs.declared.reader.CertFault.TheVariants.{BadLine, Ended, OutOfMemory}
 
--- the bytes have the fault that is told; want of memory tells nothing
+-- the bytes have the reported fault; where memory ran out, nothing is said of the bytes
 abbrev pub ToldFault : List ℕ → CertFault → Type 0
 ToldFault bytes (BadLine line) = IsTextFault bytes (bad_line line)
 ToldFault bytes (Ended line) = IsTextFault bytes (ended line)

@@ -14,7 +14,8 @@ use hub_model::{Mix, Plan, TreeLine, signed};
 use std::alloc::{AllocError, Global};
 use std::mem;
 
-// The parts that items gave. That a line ends is told by the next one, so its dual, proof or leaf is put in only then.
+// The parts that items gave. Only the next line shows that a line has ended, so its dual, proof or leaf is put in only
+// then.
 #[derive(Drop)]
 pub(crate) struct Gathering {
     pub(crate) version: Version,

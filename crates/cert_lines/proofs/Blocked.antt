@@ -6,7 +6,7 @@ use Rattle.hub_spec.specs.Trees.{Branching, IsBlocked}
 use Rattle.hub_spec.proofs.Sets.{All-from_contains}
 use Rattle.cert_lines.specs.Blocks.{IsBlockedBy, IsBlockedFrom}
 
--- with a closed first hub no last hub is asked
+-- with a closed first hub the commodity is blocked, whatever the last hub is
 pub blocked_by_first : (p : Problem) (b : Branching) (c : ℕ × ℕ) (k : ℕ) → Contains b.outside k → IsBlockedFrom p b c k
 blocked_by_first p b c k out = All-from_contains (IsBlockedBy p b c k) p.candidates (λ m here allowed. inl out)
 

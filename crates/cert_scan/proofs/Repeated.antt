@@ -24,7 +24,7 @@ abbrev pub noted_all : Shape → DualSoFar → List Item → DualSoFar
 noted_all sh so_far [] = so_far
 noted_all sh so_far (item ∷ items) = noted_all (shape_by sh (Some item)) (noted_by sh.version so_far (Some item)) items
 
--- and what shape is told
+-- and the shape after them
 abbrev pub shape_all : Shape → List Item → Shape
 shape_all sh [] = sh
 shape_all sh (item ∷ items) = shape_all (shape_by sh (Some item)) items

@@ -82,7 +82,7 @@ Now start held stage sh so_far sofar more position = InLine start held stage sh 
 -- whole lines have come, and some bytes behind them
 pub record Tracks (bytes : List ℕ) (given : List Item) (sh : Shape) (line : ℕ) (position : Position) (so_far : DualSoFar) : Type 0 where
   pub lines : List Line
-  -- what was told and held behind the lines
+  -- the shape and the dual behind the lines
   pub shape : Shape
   pub held : DualSoFar
   pub stage : Stage

@@ -1,4 +1,4 @@
--- The front of the line of a dual or of a proof, up to what the line lists, that stands whole in the bytes at hand.
+-- The prefix of the line of a dual or of a proof, up to its list, where the bytes at hand have all of this prefix.
 use Rattle.std.specs.Prelude.{◌≡◌, ℕ, ◌+◌, ◌^◌, ◌<◌, ◌≤◌, ◌⊎◌, false, List, codes, take, slice_index}
 use Rattle.core_spec.specs.MarkRanges.{most_turns, most_scale}
 use Rattle.cert_scan.specs.Runs.{GoesOn}

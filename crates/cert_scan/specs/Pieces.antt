@@ -1,4 +1,4 @@
--- The text of a certificate piece by piece: some bytes, and the item that is told once the last of them has come.
+-- The text of a certificate piece by piece: some bytes, and the item that is given once the last of them has come.
 use Rattle.std.specs.Prelude.{◌≡◌, ℕ, ◌+◌, ◌-◌, true, false, List, [], ◌∷◌, ◌++◌, length, codes, map, flat_map, Option, Some, None, option_to_list, nat_eq, nat_le, decimal, if◌then◌else◌}
 use Rattle.hub_spec.specs.Trees.{branch_on, leaf_of, no_hub, no_route, no_count}
 use Rattle.core_spec.specs.CoreCuts.{Way}
@@ -11,12 +11,12 @@ use Rattle.cert_scan.specs.Parts.{none_left, items_of}
 use Rattle.cert_scan.specs.declared.items.Item.{Item}
 use Rattle.cert_scan.specs.declared.items.Item.TheVariants.{Version, Size, Cost, Bound, Hub, Route, Cuts, Cut, CoreHub, Dual, DualPair, Proof, ProofPair, Nodes, Branch, Leaf, LeafPair, Empty, Block, Count, End}
 
--- some bytes of a text, and the item that the last of them tells, if it tells one
+-- some bytes of a text, and the item that the last of them gives, if it gives one
 pub record Piece : Type 0 where
   pub bytes : List ℕ
   pub tells : Option Item
 
--- ---- what each number of a line tells, once the byte behind it has come
+-- ---- what each number of a line gives, once the byte behind it has come
 
 -- the hubs of a plan
 abbrev pub told_hubs : List ℕ → List (ℕ × Option Item)
@@ -88,7 +88,7 @@ told_numbers (says_tree (no_route commodity)) =
 told_numbers (says_tree no_count) = []
 told_numbers says_end = []
 
--- a line that has no number is told by its keyword
+-- a line without numbers gives its item by its keyword
 abbrev pub told_keyword : Line → Option Item
 told_keyword (says_tree no_hub) = Some Empty
 told_keyword (says_tree no_count) = Some Count
@@ -156,8 +156,8 @@ whole_within count [] = []
 whole_within count (p ∷ rest) =
     if nat_le (length p.bytes) count then p ∷ whole_within (count - length p.bytes) rest else []
 
--- the items given are those of the pieces of which the last byte has come, no more and no fewer, where the bytes begin
--- lines that may stand so from the first on, and so where they begin the text of a certificate
+-- the items given are exactly those of the pieces whose last byte has come. This holds where the bytes begin lines in
+-- an order that the grammar allows, and so where they begin the text of a certificate
 pub record AreOnTime (bytes : List ℕ) (given : List Item) : Type 0 where
   pub of_lines : (lines : List Line) (stage : Stage) (rest : List ℕ) → Leads want_version lines stage
       → bytes ++ rest ≡ flat_map line_bytes lines

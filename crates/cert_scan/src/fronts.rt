@@ -27,7 +27,7 @@ pub(crate) struct ProofFront {
 // A word of five letters, three small numbers, and a short one, with a byte behind each.
 const LONGEST: usize = 6 + 3 * SMALL_ROOM + ROOM;
 
-// The front of the line of a dual of this commodity alone.
+// Reads the prefix of a line with the dual of this commodity alone, if the bytes begin with one.
 #[inline(always)]
 pub(crate) fn dual_ahead(commodity: Commodity, bytes: &[u8]) -> Option<DualFront>
     ensures { IfSome result (IsDualAhead commodity bytes.now) }
@@ -44,7 +44,7 @@ pub(crate) fn dual_ahead(commodity: Commodity, bytes: &[u8]) -> Option<DualFront
     })
 }
 
-// The front of the line of several duals, of which the first is of this commodity.
+// Reads the prefix of a line with several duals, the first of this commodity, if the bytes begin with one.
 #[inline(always)]
 pub(crate) fn duals_ahead(n: u32, commodity: Commodity, bytes: &[u8]) -> Option<DualFront>
     ensures { IfSome result (AreDualsAhead n commodity bytes.now) }
@@ -66,7 +66,7 @@ pub(crate) fn duals_ahead(n: u32, commodity: Commodity, bytes: &[u8]) -> Option<
     })
 }
 
-// The front of the line of a proof.
+// Reads the prefix of the line of a proof, if the bytes begin with one.
 #[inline(always)]
 pub(crate) fn proof_ahead(bytes: &[u8]) -> Option<ProofFront>
     ensures { IfSome result (IsProofAhead bytes.now) }

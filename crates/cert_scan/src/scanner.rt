@@ -320,9 +320,9 @@ impl Scan {
         (count + 1, item)
     }
 
-    // Takes bytes of which none can give an item, at once, and tells how many: letters that go on with the first word of
-    // the line, digits that go on with the number that stands, what is left of a line that is not as wanted, and all that
-    // stands behind such a line.
+    // Takes at once bytes of which none can give an item, and returns how many. These are letters that go on with the
+    // line's first word, or digits that go on with the current number. In a malformed line they are the rest of it.
+    // After such a line they are all bytes.
     fn take_quietly(&mut self, bytes: &[u8]) -> usize
         ensures within { result ≤ length bytes.now }
         ensures after { self.new ≡ scanned self.old (take result bytes.now) }

@@ -232,7 +232,7 @@ older_by_lines p k r =
     (λ other. same-head (claim Size size_line ((k.proof.size ≡ p.size) × (k.proof.candidates ≡ length p.candidates))) _ _ (λ h. other h.0))
     (cases_eq k.proof.size p.size)
 
--- a certificate has cuts of the problem exactly where the conditions that are asked of an older one hold
+-- a certificate has cuts of the problem exactly where the conditions on an older certificate hold
 pub has_cuts_by_lines : (p : Problem) (k : Stated) → IsStatedInRange k → AllHold (older_conditions p k) ↔ HasCutsOf p k.proof
 has_cuts_by_lines p k r =
     let same = (older_by_lines p k r).hold in

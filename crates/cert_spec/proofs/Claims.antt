@@ -152,7 +152,7 @@ duals_claimed p v part line duals h =
 
 -- ---- the cuts, each with its mark
 
--- the dual is a core dual by the proof beside it
+-- the dual is Pareto-optimal by the proof beside it
 abbrev IsProvedBy : Problem → List ℕ → ℕ → ℕ × ℕ → Prices × CoreProof → Type 0
 IsProvedBy p hubs part c t = IsCoreDual p hubs part c t.0 t.1
 
@@ -165,7 +165,8 @@ if_time_claimed : (b : Bool) (c : Claim) → (b ≡ true → c.holds) → AllHol
 if_time_claimed true c h = (h refl, tt)
 if_time_claimed false c h = tt
 
--- what the conditions say on duals of a marked cut, the first of which has number t, and on their proofs if these are asked
+-- what the conditions say on duals of a marked cut, the first of which has number t;
+-- and on their proofs, if these are checked
 record AreProved (p : Problem) (asked : Bool) (cut : Cut) (hubs : List ℕ) (t : ℕ) (duals : List Prices) (proofs : List CoreProof) : Type 0 where
   are_duals : AllZip (IsDual p cut.part) (commodities_from p.size t (length duals)) duals
   are_within : 1 ≤ length duals → IsWithinSums p cut
@@ -290,7 +291,7 @@ cut_claimed p asked v line cut (Some mark) is marked =
     (subst (λ (cs : List (ℕ × ℕ)). AllZip (IsDual p cut.part) cs cut.duals) all is.duals)
     (λ yes. subst (λ (cs : List (ℕ × ℕ)). AllZip (IsProvedBy p mark.hubs cut.part) cs (zip cut.duals mark.proofs)) all (marked yes).proofs))
 
--- what the conditions say on cuts, and on their marks if these are asked
+-- what the conditions say on cuts, and on their marks if these are checked
 record AreAsMarked (p : Problem) (asked : Bool) (cuts : List Cut) (marks : List (Option Mark)) : Type 0 where
   are_cuts : All (IsCut p) cuts
   are_marked : asked ≡ true → AllZip (IsAsMarked p) cuts marks

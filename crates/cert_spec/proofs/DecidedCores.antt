@@ -1,4 +1,4 @@
--- Whether a cut may be marked, and whether a dual is a core dual by a proof, is decided.
+-- Whether a cut may be marked, and whether a dual is Pareto-optimal by a proof, is decided.
 use Rattle.std.proofs.Common.{◌≡◌, ℕ, ◌+◌, ◌*◌, ◌^◌, ◌%◌, ◌≤◌, Option, Some, None, List, length, All, Contains, inl, inr, refl, sym}
 use Rattle.std.proofs.lemmas.Option.{none-some}
 use Rattle.std.proofs.lemmas.Nat.Gcd.{dvd_of_mod-eq-zero, mod-eq-zero_of_dvd}

@@ -1,4 +1,5 @@
--- The same conditions part by part, for a check that holds the certificate: plan, cuts and tree, with their lines counted.
+-- The same conditions part by part, for a check that holds the certificate: plan, cuts and tree, with their lines
+-- counted.
 use Rattle.std.specs.Prelude.{◌≡◌, ℕ, ◌+◌, ◌≤◌, ◌*◌, Bool, true, false, nat_eq, Option, Some, None, List, [], ◌∷◌, ◌++◌, length, sum_by, All, Contains}
 use Rattle.hub_spec.specs.Problem.{Problem, is_allowed, commodities, commodity_at}
 use Rattle.hub_spec.specs.Plans.{HasWanted, plan_cost}
@@ -70,8 +71,8 @@ dual_claims p part line t [] = []
 dual_claims p part line t (r ∷ rest) =
     claim Dual line (IsDualOfRun p part t r) ∷ dual_claims p part (line + 1) (t + r.0) rest
 
--- the duals of a marked cut from this line on, where the first has number t, each with its proof, if proofs are asked; at the
--- last dual the sums of the cut
+-- the duals of a marked cut from this line on, where the first has number t; each with its proof, if proofs are
+-- checked; at the last dual the sums of the cut
 abbrev pub proved_claims : Problem → Bool → Cut → List ℕ → ℕ → ℕ → List Prices → List CoreProof → List Claim
 proved_claims p asked cut hubs line t [] proofs = []
 proved_claims p asked cut hubs line t (dual ∷ duals) [] = []
@@ -81,7 +82,8 @@ proved_claims p asked cut hubs line t (dual ∷ duals) (proof ∷ proofs) =
     ++ (if_time asked (claim Core (line + 1) (IsCoreDual p hubs cut.part (commodity_at p.size t) dual proof))
     ++ proved_claims p asked cut hubs (line + 2) (t + 1) duals proofs))
 
--- a cut that stands at this line: its duals, and at the last of them its sums; where it is marked its mark too, if marks are asked
+-- a cut that stands at this line: its duals, and at the last of them its sums;
+-- where it is marked its mark too, if marks are checked
 abbrev pub one_cut_claims : Problem → Bool → ℕ → ℕ → Cut × Option Mark → List Claim
 one_cut_claims p asked v line (cut, None) =
     dual_claims p cut.part (first_dual_line line) 0 (dual_runs v p.size cut.duals)
@@ -136,7 +138,7 @@ hub_claims p n cost hubs routes =
 abbrev pub plan_claims : Problem → Proof → List Claim
 plan_claims p k = size_claims p k ++ hub_claims p k.size k.cost k.plan.hubs k.plan.routes
 
--- those of the cuts, and of their marks if these are asked
+-- those of the cuts, and of their marks if these are checked
 abbrev pub all_cut_claims : Problem → Bool → Stated → List Claim
 all_cut_claims p asked k = cut_claims p asked k.proof.version (first_cut_line k.proof.size) (cuts_of k)
 
@@ -149,6 +151,6 @@ all_tree_claims p k =
 abbrev pub claims : Problem → Stated → List Claim
 claims p k = plan_claims p k.proof ++ (all_cut_claims p true k ++ all_tree_claims p k)
 
--- those that are asked of an older certificate whose cuts are to be given: its size, and its cuts, whatever their marks
+-- those of an older certificate whose cuts are imported: its size, and its cuts, whatever their marks
 abbrev pub older_claims : Problem → Stated → List Claim
 older_claims p k = size_claim p k.proof ∷ all_cut_claims p false k

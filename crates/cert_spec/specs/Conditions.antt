@@ -10,7 +10,8 @@ use Rattle.cert_spec.specs.Stated.{Stated}
 use Rattle.cert_spec.specs.Text.{certificate_items}
 use Rattle.cert_spec.specs.Progress.{Progress, is_whole, at_start, after_line}
 
--- what a condition is about; BoundOverCost fails where the bound is above the cost, Core where a marked cut is no core cut
+-- what a condition is about. `BoundOverCost` fails where the bound is above the cost.
+-- `Core` fails where a marked cut is not Pareto-optimal by its mark.
 pub data Kind : Type 0 where
   Size BoundOverCost Hubs Number Route Length Cost Dual Sum Core Branch Empty Block Count CutNumber Multiple Weight Leaf : Kind
 
@@ -63,7 +64,7 @@ abbrev pub marked_hubs : Option (List ℕ) → List ℕ
 marked_hubs None = []
 marked_hubs (Some hubs) = hubs
 
--- the last of the duals is a core dual of its commodity, by this proof
+-- the last of the duals is a Pareto-optimal dual of its commodity, by this proof
 abbrev pub LastIsCore : Problem → Progress → CoreProof → Type 0
 LastIsCore p s proof =
     let t = length s.duals - 1 in
@@ -115,14 +116,14 @@ conditions_from p s (item ∷ items) = line_conditions p s item ++ conditions_fr
 abbrev pub conditions : Problem → Stated → List Claim
 conditions p k = conditions_from p at_start (certificate_items k)
 
--- a kind that is asked of an older certificate, whose cuts are to be given: its size, its duals, and the sums of its cuts
+-- the kinds that count for an older certificate whose cuts are imported: its size, its duals, and the sums of its cuts
 abbrev pub is_of_cuts : Kind → Bool
 is_of_cuts Size = true
 is_of_cuts Dual = true
 is_of_cuts Sum = true
 is_of_cuts other = false
 
--- those of these conditions whose kind is asked, in order
+-- those of these conditions whose kind passes the test, in order
 abbrev pub asked : (Kind → Bool) → List Claim → List Claim
 asked is_asked [] = []
 asked is_asked (c ∷ cs) = if_time (is_asked c.kind) c ++ asked is_asked cs
@@ -131,7 +132,7 @@ asked is_asked (c ∷ cs) = if_time (is_asked c.kind) c ++ asked is_asked cs
 abbrev pub older_conditions : Problem → Stated → List Claim
 older_conditions p k = asked is_of_cuts (conditions p k)
 
--- two lists of conditions come to the same: both hold, or the same condition is the first of them to fail
+-- two lists of conditions are equivalent: both hold, or the same condition is the first of them to fail
 pub record ComesToTheSame (xs ys : List Claim) : Type 0 where
   pub hold : AllHold xs ↔ AllHold ys
   pub fail : (kind : Kind) (line : ℕ) → FailsFirst xs kind line ↔ FailsFirst ys kind line

@@ -43,7 +43,7 @@ pub record IsStatedInRange (k : Stated) : Type 0 where
   pub marks : All (λ mark. IfSome mark (IsMarkInRange k.proof.size)) k.marks
   pub version : IsThird k.proof.version ⊎ All (λ (mark : Option Mark). mark ≡ None) k.marks
 
--- the cut is a core cut by its mark, if it has one
+-- the cut is Pareto-optimal by its mark, if it has one
 abbrev pub IsAsMarked : Problem → Cut → Option Mark → Type 0
 IsAsMarked p cut None = Unit {0}
 IsAsMarked p cut (Some mark) = IsCoreCut p cut mark

@@ -1,4 +1,4 @@
--- The cut that is found for a hub set is a core cut.
+-- The cut that is found for a hub set is Pareto-optimal.
 use Rattle.std.proofs.Common.{◌≡◌, ℕ, ◌*◌, ◌/◌, ◌≤◌, List, [], ◌∷◌, length, map, zip, nat_eq, All, Contains, refl, sym, ap, ◌∙◌, subst, arith}
 use Rattle.std.specs.List.{AllZip}
 use Rattle.std.specs.Int.{◌∣◌}

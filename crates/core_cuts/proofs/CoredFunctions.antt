@@ -161,7 +161,7 @@ cored_function p hubs asked = (
   (gives_plain p hubs asked (core_marked p hubs) refl, plain_given p hubs asked),
 )
 
--- what is told by the relations is what the function gives
+-- a result for which the relations hold is what the function gives
 pub is_marked : (p : Problem) (hubs : List ℕ) (o : Option MarkedCut) → IsAskedSet p hubs → IfSome o (IsCored p hubs) → (o ≡ None → IsPlain p hubs)
     → o ≡ core_marked p hubs
 is_marked p hubs None asked some none = sym ((cored_function p hubs asked).1.0 (none refl))

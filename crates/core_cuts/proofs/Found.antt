@@ -1,4 +1,4 @@
--- What is read of a best table is a core dual.
+-- What is read of a best table is a Pareto-optimal dual.
 use Rattle.std.proofs.Common.{◌≡◌, ℕ, zero, suc, ◌+◌, ◌-◌, ◌*◌, ◌/◌, ◌^◌, ◌<◌, ◌≤◌, nat_eq, ◌||◌, get_or, List, [], ◌∷◌, map, length, drop, Contains, None, ℤ, pos, ◌-ℤ◌, unsigned_abs, sym, ap, ◌∙◌, arith}
 use Rattle.std.proofs.Math.Nat.{mul-le-mul, mul-div_cancel_left}
 use Rattle.std.proofs.lemmas.Int.{ints}

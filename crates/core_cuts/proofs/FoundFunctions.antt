@@ -115,7 +115,7 @@ found_function p hubs c asked = (
   (gives_none p hubs c (core_found p hubs c) asked refl, none_given p hubs c asked),
 )
 
--- what is told by the relations is what the function gives
+-- a result for which the relations hold is what the function gives
 pub is_found : (p : Problem) (hubs : List ℕ) (c : ℕ × ℕ) (o : Option FoundDual) → IsAsked p hubs c → IfSome o (IsFound p hubs c)
     → (o ≡ None → IsNotFound p hubs c) → o ≡ core_found p hubs c
 is_found p hubs c None asked some none = sym ((found_function p hubs c asked).1.0 (none refl))

@@ -1,4 +1,4 @@
--- A dual made of a balanced price and values is feasible, and a core dual.
+-- A dual made of a balanced price and values is feasible and Pareto-optimal.
 use Rattle.std.proofs.Common.{◌≡◌, ◌≢◌, ℕ, ◌+◌, ◌*◌, ◌/◌, ◌^◌, ◌<◌, ◌≤◌, Bool, true, cond, nat_eq, List, [], ◌∷◌, map, length, drop, filter, sum_by, All, Contains, None, ⊎_elim, refl, sym, ap, ◌∙◌, subst, eq-eqb, ne_eqb, lt-ltb, ℤ, mul-le-mul_left, arith}
 use Rattle.std.specs.List.Sorted.{IsStrictlyIncreasing}
 use Rattle.std.proofs.Math.Nat.{dvd-mul_right, mul-div_cancel'}
@@ -85,7 +85,7 @@ through_edge value k m ks up =
     let split = sum_by-plus (λ x. cond (nat_eq k x) (value x) 0) (λ x. cond (nat_eq m x) (value x) 0) ks in
     omega (arith, below, split, one_of value k ks up, one_of value m ks up)
 
--- ---- the ways that are asked for
+-- ---- the ways that the core problem has
 
 Contains-mapped : (k : ℕ) (ks : List ℕ) (m : ℕ) → Contains ks m → Contains {X = ℕ × ℕ} (map (λ x. (k, x)) ks) (k, m)
 Contains-mapped k [] m c = nil_contains_none m c
@@ -192,7 +192,7 @@ module _ (p : Problem) (hubs : List ℕ) (c : ℕ × ℕ) (part price v : ℕ) (
         omega (arith, edge, e));
   }
 
--- ---- a core dual
+-- ---- a Pareto-optimal dual
 
 equal_step : (w g t e price v sc sh cost a least total whole : ℕ) → price ≡ e * v + sh
     → g * ((2 + 2 * t) * price) ≡ g * (sc + 2 * t * sh) + e * cost → w * price ≡ a → w * v ≡ least → w * sc ≡ total → w * cost ≡ whole

@@ -1,4 +1,4 @@
--- Ways in the order of a proof line come to the same sums.
+-- Ways have the same sums in the order of a proof line.
 use Rattle.std.proofs.Common.{◌≡◌, ℕ, ◌+◌, ◌*◌, ◌<◌, ◌≤◌, Bool, cond, nat_eq, nat_lt, ◌||◌, List, [], ◌∷◌, flat_map, filter, sum_by, All, Contains, ⊎_elim, refl, sym, ap, ◌∙◌, eq-eqb, ne_eqb, lt-ltb, arith}
 use Rattle.std.specs.List.Sorted.{IsStrictlyIncreasing}
 use Rattle.std.proofs.lemmas.Bool.{cases_lt}

@@ -1,5 +1,5 @@
--- What is held while the core duals of the commodities are found: the ways of a commodity, what is read of its run, and duals
--- that are found ahead of their turn.
+-- What is held while the Pareto-optimal duals of the commodities are found. That is the ways of a commodity, what is
+-- read of its run, and duals that are found before their commodity comes in order.
 use Rattle.std.specs.Prelude.{◌≡◌, ℕ, ◌*◌, ◌<◌, ◌≤◌, Option, None, IfSome, List, length, map, slice_index_or, ℤ, pos}
 use Rattle.hub_spec.specs.Limits.{most_part}
 use Rattle.hub_spec.specs.Problem.{Problem, commodities}

@@ -1,5 +1,5 @@
--- The linear program whose best dual is a core dual: its variables are the price and the value of each candidate, its
--- constraints the ways of the commodity, all by unit of flow.
+-- The linear program whose best dual is Pareto-optimal, all by unit of flow. Its variables are the price and the
+-- value of each candidate, its constraints the ways of the commodity.
 use Rattle.std.specs.Prelude.{ℕ, ◌+◌, ◌*◌, ◌/◌, Bool, ◌&&◌, ◌||◌, nat_eq, nat_lt, if◌then◌else◌, List, [], ◌∷◌, ◌++◌, length, map, filter, flat_map, ℤ, pos, ◌-ℤ◌, unsigned_abs}
 use Rattle.hub_spec.specs.Problem.{Problem, flow}
 use Rattle.hub_spec.proofs.Sets.{is_in}

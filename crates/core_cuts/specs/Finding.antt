@@ -23,7 +23,8 @@ first_from test a n = find test (range_with_len a n)
 
 -- ---- the reading of a table
 
--- the ratio of the variable j that is basic in this row: the right side over its number there; 0 over 1 where it is in none
+-- the ratio of the variable j that is basic in this row: the right side over its number there; 0 over 1 where it is
+-- in none
 abbrev pub ratio_by : Table → ℕ → Option ℕ → Ratio
 ratio_by t j None = nothing
 ratio_by t j (Some i) = record { right = unsigned_abs (right_side (row_at t i)); over = unsigned_abs (number (row_at t i) j) }
@@ -72,7 +73,7 @@ found_by_end p hubs c t Best = found_by_ratios p hubs c (ratios_of t (length p.c
 found_by_end p hubs c t Turns = None
 found_by_end p hubs c t Wide = None
 
--- the core dual of the commodity at the hubs
+-- the Pareto-optimal dual of the commodity at the hubs
 unfoldable pub core_found : Problem → List ℕ → ℕ × ℕ → Option FoundDual
 core_found p hubs c = found_by_end p hubs c (core_run p hubs c).table (core_run p hubs c).ended
 
@@ -128,6 +129,6 @@ abbrev pub marked_by : Problem → List ℕ → Option (List FoundDual) → Opti
 marked_by p hubs None = None
 marked_by p hubs (Some founds) = marked_by_part p hubs founds (first_from (is_common_part (parts_of founds)) 1 most_part)
 
--- the core cut of the hub set
+-- the Pareto-optimal cut from the hub set
 unfoldable pub core_marked : Problem → List ℕ → Option MarkedCut
 core_marked p hubs = if may_be_marked p then marked_by p hubs (core_founds p hubs (commodities p.size)) else None

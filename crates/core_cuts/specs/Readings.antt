@@ -1,4 +1,5 @@
--- What the linear program of a commodity says of its core dual: prices and values by unit of flow, read off its best table.
+-- What the linear program of a commodity says of its Pareto-optimal dual: prices and values by unit of flow, read off
+-- its best table.
 use Rattle.std.specs.Prelude.{◌≡◌, ℕ, ◌+◌, ◌-◌, ◌*◌, ◌/◌, ◌^◌, ◌≤◌, ◌⊎◌, List, length, drop, zip, sum_by, All, unsigned_abs}
 use Rattle.hub_spec.specs.Limits.{most_part}
 use Rattle.hub_spec.specs.Problem.{Problem, flow}

@@ -18,8 +18,8 @@ RunCombines = (columns : List (List ℤ)) (rights : List ℤ) → All AreNarrow 
     → All (λ column. length column ≡ length rights + 1) columns
     → All (IsCombined columns rights) (run (start columns rights)).table.rows
 
--- where the run ends with a best table, its objective row is a cover of the core problem, and its right side is what the
--- ways of the cover cost by unit of flow
+-- where the run ends with a best table, its objective row is a cover of the core problem, and its right side is what
+-- the ways of the cover cost by unit of flow
 pub record IsBestCover (p : Problem) (hubs : List ℕ) (c : ℕ × ℕ) (row : List ℤ) (scale : ℕ) : Type 0 where
   pub scale_is : number row (length row - 2) ≡ pos scale
   pub cover : IsCover p hubs (record {
@@ -52,23 +52,24 @@ pub record IsReadOf (p : Problem) (t : Table) (part price : ℕ) (value : ℕ �
   pub others : (j : ℕ) → j < length p.candidates + 1 → ((i : ℕ) → i < length t.basis → slice_index t.basis i ≡ j → ⊥)
       → variable_of p price value j ≡ 0
 
--- by unit of flow no way costs less than the price, times the part and with the values of its nodes, and what is said is
--- what the ways cost
+-- by unit of flow no way costs less than the price, times the part and with the values of its nodes, and what is said
+-- is what the ways cost
 pub record IsBalancedDual (p : Problem) (hubs : List ℕ) (c : ℕ × ℕ) (part price : ℕ) (value : ℕ → ℕ) (scale : ℕ) (ways : List Way) : Type 0 where
   pub feasible : All (λ e. price ≤ part * edge_right p c e + sum_by (λ k. through e k * value k) p.candidates) (core_edges p c)
   pub balanced : scale * ((2 + 2 * length p.candidates) * price)
       ≡ scale * sum_by (λ k. counts hubs (length p.candidates) k * value k) p.candidates
       + part * sum_by (λ (w : Way). w.2 * edge_right p c (w.0, w.1)) ways
 
--- where the run ends with a best table, what is read of its basic solution is balanced by the cover of its objective row
+-- where the run ends with a best table, what is read of its basic solution is balanced by the cover of its objective
+-- row
 abbrev pub BestIsBalanced : Type 0
 BestIsBalanced = (p : Problem) (hubs : List ℕ) (c : ℕ × ℕ) (part price scale : ℕ) (value : ℕ → ℕ) → IsHubSet p hubs → IsNarrowCore p hubs c
     → (run (core_table p hubs c)).ended ≡ Best → IsReadOf p (run (core_table p hubs c)).table part price value
     → IsBestCover p hubs c (objective (run (core_table p hubs c)).table) scale
     → IsBalancedDual p hubs c part price value scale (ways_of (core_edges p c) (drop (length p.candidates + 1) (objective (run (core_table p hubs c)).table)))
 
--- a dual is made of a price and values by unit of flow, which are at most 10^20, and of which those of hubs make up for
--- what the price is above the part times v
+-- A dual is made of a price and values by unit of flow, which are at most 10^20. The values of the hubs add up to
+-- what the price is above the part times v.
 pub record IsMadeOf (p : Problem) (hubs : List ℕ) (c : ℕ × ℕ) (part price v : ℕ) (value : ℕ → ℕ) (dual : Prices) : Type 0 where
   pub least : flow p c.0 c.1 * v ≡ least_cost p hubs c
   pub tight : price ≡ part * v + sum_by value hubs
@@ -78,7 +79,7 @@ pub record IsMadeOf (p : Problem) (hubs : List ℕ) (c : ℕ × ℕ) (part price
   pub values_are : (k : ℕ) → Contains p.candidates k → value_at dual.u k ≡ flow p c.0 c.1 * value k
   pub are_candidates : All (λ entry. Contains p.candidates entry.0) dual.u
 
--- a dual that is balanced by a cover, and tight by unit of flow, is a core dual by it, and feasible
+-- a dual that is balanced by a cover, and tight by unit of flow, is feasible, and Pareto-optimal by that cover
 abbrev pub BalancedIsCore : Type 0
 BalancedIsCore = (p : Problem) (hubs : List ℕ) (c : ℕ × ℕ) (part price v : ℕ) (value : ℕ → ℕ) (dual : Prices) (row : List ℤ) (scale : ℕ)
     → IsProblem p → p.longest ≡ None → IsHubSet p hubs → IsBestCover p hubs c row scale
@@ -101,8 +102,8 @@ OrderedCovers = (p : Problem) (hubs : List ℕ) (c : ℕ × ℕ) (turns scale : 
 abbrev pub CoreIsNarrow : Type 0
 CoreIsNarrow = (p : Problem) (hubs : List ℕ) (c : ℕ × ℕ) → IsProblem p → p.longest ≡ None → c.0 < p.size → c.1 < p.size → IsNarrowCore p hubs c
 
--- where the run ends with a best table, what is read of it, if it is tight, makes a core dual, proved by the ways of the
--- objective row in the order of a proof line
+-- Where the run ends with a best table and what is read of it is tight, that makes a feasible and Pareto-optimal
+-- dual. Its proof is the ways of the objective row, in the order of a proof line.
 abbrev pub ReadingIsCore : Type 0
 ReadingIsCore = (p : Problem) (hubs : List ℕ) (c : ℕ × ℕ) (part price v : ℕ) (value : ℕ → ℕ) (dual : Prices) → IsProblem p → p.longest ≡ None → IsHubSet p hubs
     → c.0 < p.size → c.1 < p.size → (run (core_table p hubs c)).ended ≡ Best

@@ -1,4 +1,5 @@
--- What is proved of core duals that are found; each statement is the contract of the public function of its name.
+-- What is proved of Pareto-optimal duals that are found; each statement is the contract of the public function of its
+-- name.
 use Rattle.std.specs.Prelude.{◌≡◌, ◌↔◌, ℕ, ◌*◌, ◌/◌, ◌<◌, ◌≤◌, None, Some, List, All}
 use Rattle.std.specs.List.{AllPairs}
 use Rattle.hub_spec.specs.Limits.{most_denominator}
@@ -21,7 +22,7 @@ pub record IsAsked (p : Problem) (hubs : List ℕ) (c : ℕ × ℕ) : Type 0 whe
   pub from : c.0 < p.size
   pub to : c.1 < p.size
 
--- what is found is feasible, and a core dual by its proof
+-- what is found is feasible, and Pareto-optimal by its proof
 abbrev pub FoundIsCore : Type 0
 FoundIsCore = (p : Problem) (hubs : List ℕ) (c : ℕ × ℕ) (found : FoundDual) → IsAsked p hubs c → IsFound p hubs c found
     → IsDual p found.part c found.dual × IsCoreDual p hubs found.part c found.dual found.proof
@@ -56,7 +57,7 @@ pub record IsAskedSet (p : Problem) (hubs : List ℕ) : Type 0 where
   pub problem : IsProblem p
   pub set : IsHubSet p hubs
 
--- the cut that is found for a hub set is a core cut by its mark
+-- the cut that is found for a hub set is Pareto-optimal by its mark
 abbrev pub CoredIsCore : Type 0
 CoredIsCore = (p : Problem) (hubs : List ℕ) (x : MarkedCut) → IsAskedSet p hubs → IsCored p hubs x → IsCoreCut p x.cut x.mark
 
@@ -65,8 +66,8 @@ abbrev pub CoredIsFunction : Type 0
 CoredIsFunction = (p : Problem) (hubs : List ℕ) → IsAskedSet p hubs
     → ((x : MarkedCut) → IsCored p hubs x ↔ (core_marked p hubs ≡ Some x)) × (IsPlain p hubs ↔ (core_marked p hubs ≡ None))
 
--- the marked cut is a core cut of the hub set, tight there; cut and mark are within the ranges of a certificate, and the part
--- divides the denominator 1,000,000
+-- The marked cut is Pareto-optimal, and tight at the hub set. Cut and mark are within the ranges of a certificate,
+-- and the part divides the denominator 1,000,000.
 pub record IsServing (p : Problem) (set : List ℕ) (x : MarkedCut) : Type 0 where
   pub core : IsCoreCut p x.cut x.mark
   pub hubs : x.mark.hubs ≡ set
@@ -75,6 +76,6 @@ pub record IsServing (p : Problem) (set : List ℕ) (x : MarkedCut) : Type 0 whe
   pub tight : IsTight p set x.cut
   pub whole : most_denominator / x.cut.part * x.cut.part ≡ most_denominator
 
--- so the cut that is found for a hub set serves
+-- so is the cut that is found for a hub set
 abbrev pub CoredServes : Type 0
 CoredServes = (p : Problem) (hubs : List ℕ) (x : MarkedCut) → IsAskedSet p hubs → IsCored p hubs x → IsServing p hubs x

@@ -1,17 +1,21 @@
-//! Pareto-optimal cuts of a hub set (Magnanti and Wong 1981): for each commodity a dual from an exact linear program, with
-//! its proof.
+//! Pareto-optimal cuts of a hub set (Magnanti and Wong 1981): for each commodity a dual from an exact linear program,
+//! with its proof.
 //!
-//! They are read off the best table of a linear program, which says of price and values by unit of flow what a dual owes:
-//! its rows are combinations of the first rows, and its basic solution solves them (`runs`). Whether the run ends at a
-//! best table is seen, not trusted. The modules build on one another in this order: `edges` and `ways` (the ways of a
-//! commodity, and what they cost), `tables` and `problems` (the table before the first pivot), `ratios` (the basic
-//! solution of the last table), `least_parts` (the part that makes it whole), `unit_prices` (price and values by unit of
-//! flow, times the part), `readings` (these of a table), `taken_ways` and `table_proofs` (what proves the dual),
-//! `core_duals`; and for a cut `mirrors` (the Pareto-optimal dual of a commodity, and that of its way back where one
-//! linear program gives both), `ahead` (the duals that are known before their turn), `found_duals` (the Pareto-optimal
-//! duals of all commodities), `common_parts` (the least part that they have in common), `brought_duals` (one of them with
-//! that part), `brought_cuts` (all of them, within the limits of a certificate), `found_cuts`. The functions below are
-//! empty: the contract of each is a theorem on what is found.
+//! They are read off the last tableau of a linear program, whose constraints are those of a dual's price and values
+//! by unit of flow. The tableau's rows are combinations of the first rows, and its basic solution solves them
+//! (`runs`). Whether the tableau is optimal is tested, not trusted.
+//!
+//! The modules build on one another in this order. `edges` and `ways` have the ways of a commodity, and what they
+//! cost. `tables` and `problems` have the tableau before the first pivot. `ratios` has the basic solution of the last
+//! tableau, `least_parts` the part that makes it whole. `unit_prices` has price and values by unit of flow, times the
+//! part; `readings` has these of a tableau. `taken_ways` and `table_proofs` have what proves the dual. `core_duals`
+//! has the dual of one commodity.
+//!
+//! For a cut, `mirrors` finds the dual of a commodity, and that of its way back where one linear program gives both.
+//! `ahead` has the duals that are known before their commodity comes in order, `found_duals` those of all
+//! commodities. `common_parts` has the least part that they have in common. `brought_duals` has one of them with that
+//! part, `brought_cuts` all of them, within the limits of a certificate. `found_cuts` has the cut of a hub set. The
+//! functions below are empty: the contract of each is a theorem on what is found.
 #![tactic(auto)]
 
 mod ahead;

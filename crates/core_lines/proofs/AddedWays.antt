@@ -17,7 +17,7 @@ through_more old new way n most long passed few limit =
     (λ i l. (let before = All-get_or (λ x. x ≤ n * most) old i 0 (omega (arith, l, long)) limit in
     omega (arith, before, passed i, taken_few i way, few)))
 
--- what is written back where all of a list was lent
+-- what is written back where all of a list was borrowed
 pub all_written : (n : ℕ) (new items : List ℕ) → n ≡ length items → length new ≡ length items → take n (new ++ drop (length new) items) ≡ new
 all_written n new items is long =
     ap (λ k. take k (new ++ drop (length new) items)) {x = n} {y = length new} (omega (arith, is, long))

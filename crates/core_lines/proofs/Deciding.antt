@@ -1,4 +1,4 @@
--- What a tally shows is what a core dual is.
+-- The tests of a tally pass exactly where a dual is Pareto-optimal by the proof.
 use Rattle.std.proofs.Common.{◌≡◌, ◌↔◌, ℕ, ◌+◌, ◌*◌, ◌≤◌, List, [], ◌∷◌, ◌++◌, Some, All, Contains, IsTrue, None, refl, ap, sym, ◌∙◌, subst, slice_index, arith}
 use Rattle.std.proofs.lemmas.List.Elements.{All-contains, All-nil, All-push, All-pop, All-weaker}
 use Rattle.std.proofs.lemmas.List.Sums.{sum_by_push}

@@ -1,4 +1,4 @@
--- The proof of a commodity's core dual while its ways come, with no way kept.
+-- The proof of a commodity's Pareto-optimal dual, tallied way by way, with no way stored.
 use Rattle.std.specs.Prelude.{◌≡◌, ℕ, ◌+◌, ◌*◌, ◌^◌, ◌↔◌, Bool, true, IsTrue, None, List, slice_index, All, Contains}
 use Rattle.hub_spec.specs.Limits.{most_nodes}
 use Rattle.hub_spec.specs.Problem.{Problem, flow}
@@ -8,8 +8,9 @@ use Rattle.core_spec.specs.CoreCuts.{Way, CoreProof, taken_at, taken, taken_thro
 abbrev pub most_ways : ℕ
 most_ways = most_nodes * most_nodes
 
--- a commodity of an instance, the turns and the scale of its proof, and of the ways so far: how many there are, how often
--- they are taken, in all and through each node, what they cost together by unit of flow, and whether candidates alone are on them
+-- a commodity of an instance, and the turns and the scale of its proof. Of the ways so far: how many there are, how
+-- often they are taken, in all and through each node, what they cost together by unit of flow, and whether candidates
+-- alone are on them
 pub record ProofTally : Type 0 where
   pub problem : Problem
   pub commodity : ℕ × ℕ
@@ -37,7 +38,7 @@ pub record IsNoWay (p : Problem) (c : ℕ × ℕ) (turns scale : ℕ) (t : Proof
   pub lengths_is : t.lengths ≡ 0
   pub known : t.by_candidates ≡ true
 
--- the later tally has this way more; what it costs is told where the length of routes is not limited
+-- the later tally has this way more; its cost is known where the length of routes is not limited
 pub record IsWayAdded (t : ProofTally) (way : Way) (later : ProofTally) : Type 0 where
   pub problem_is : later.problem ≡ t.problem
   pub commodity_is : later.commodity ≡ t.commodity

@@ -17,7 +17,7 @@ abbrev pub ProofHasWay : Type 0
 ProofHasWay = (proof : CoreProof) (t later : ProofTally) (way : Way) → IsTallyOf proof t → IsWayAdded t way later
     → IsTallyOf (record { turns = proof.turns; scale = proof.scale; ways = proof.ways ++ way ∷ [] }) later
 
--- what is tested of the tally of a proof and a listed dual is that the dual is a core dual by the proof
+-- the tests of a proof's tally and a listed dual say whether the dual is Pareto-optimal by the proof
 abbrev pub ProofDecides : Type 0
 ProofDecides = (hubs : List ℕ) (part price : ℕ) (values : List ℕ) (dual : Prices) (proof : CoreProof) (t : ProofTally)
     → t.problem.longest ≡ None → IsCandidateSet t.problem hubs → 1 ≤ proof.scale → IsTallyOf proof t → IsListed dual price values

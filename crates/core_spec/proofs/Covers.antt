@@ -121,7 +121,7 @@ counted p hubs proof v ok set cover =
 
 -- ---- a commodity
 
--- the price and the values of a core dual, of part e, against those of a tight dual of part f
+-- the price and the values of a Pareto-optimal dual, of part e, against those of a tight dual of part f
 outweighs : (e f g t v b w wh taken cost sum a u : ℕ) → 1 ≤ g → g * (2 + 2 * t) ≤ taken → taken * b ≤ f * cost + sum
     → sum ≤ g * w + g * (2 * t) * wh → b ≡ f * v + wh → g * (2 * a + 2 * t * (e * v)) ≡ e * cost + g * u
     → e * (2 * b) + f * u ≤ f * (2 * a) + e * w
@@ -134,7 +134,7 @@ outweighs e f g t v b w wh taken cost sum a u some enough bound within tight equ
     let k4 : g * (e * (2 * b) + f * u) ≤ g * (f * (2 * a) + e * w) = omega (arith, k2, k3) in
     le_of_mul-le-mul_left k4 some
 
--- a core dual says by twice its price less all of its values at least as much as any dual that is tight at the hubs
+-- twice the price less all values, over the part: a Pareto-optimal dual has at least that of any dual tight at the hubs
 pub core_outweighs : (p : Problem) (hubs : List ℕ) (e f : ℕ) (c : ℕ × ℕ) (d tight : Prices) (proof : CoreProof)
     → IsProblem p → p.longest ≡ None → IsHubSet p hubs → IsCoreDual p hubs e c d proof → IsDual p f c tight
     → tight.a ≡ f * least_cost p hubs c + values_on tight hubs

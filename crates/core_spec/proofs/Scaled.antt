@@ -1,4 +1,4 @@
--- A core dual brought to a greater part.
+-- A Pareto-optimal dual scaled to a greater part.
 use Rattle.std.proofs.Common.{◌≡◌, ℕ, ◌+◌, ◌*◌, List, [], ◌∷◌, All, Contains, ap, mul-le-mul_left, arith}
 use Rattle.std.proofs.lemmas.List.Elements.{All-contains}
 use Rattle.std.proofs.lemmas.List.Sums.{sum_by-cons}

@@ -1,4 +1,5 @@
--- A cut that dominates another says more by twice its total less all of its loads, where there are three candidates.
+-- Twice the total less all loads, over the part, is greater for a cut that dominates another.
+-- This needs three candidates or more.
 use Rattle.std.proofs.Common.{◌≡◌, ℕ, suc, ◌+◌, ◌*◌, ◌<◌, ◌≤◌, not, slice_index, zero, List, [], ◌∷◌, length, filter, Contains, ⊎_elim, refl, ap, sym, ◌∙◌, subst, arith}
 use Rattle.std.specs.List.Sorted.{IsStrictlyIncreasing}
 use Rattle.std.proofs.lemmas.List.Elements.{All-filter, All-cons, All-nil}
@@ -12,7 +13,7 @@ use Rattle.hub_spec.proofs.Sets.{is_in, part_is_filter, All-from_contains, Conta
 use Rattle.core_spec.specs.Domination.{loads_on, SaysNoLess, SaysMore, Dominates}
 use Rattle.core_spec.proofs.SetSums.{sum_by-split}
 
--- x says more than y by twice its total less its loads of these nodes
+-- twice the total less the loads of these nodes, over the part, is greater for x than for y
 abbrev pub OutweighsOn : Cut → Cut → List ℕ → Type 0
 OutweighsOn x y nodes =
     x.part * (2 * total y) + y.part * loads_on x nodes < y.part * (2 * total x) + x.part * loads_on y nodes
@@ -83,7 +84,8 @@ pair_set p k m in_k in_m less = record {
       (All-cons (Contains p.candidates) m [] in_m (All-nil (Contains p.candidates)));
 }
 
--- where x's total is less over its part, it says more at a pair, since it says no less at each of the two
+-- where x's total over its part is less than y's, x has the greater bound at a pair of nodes:
+-- its bound is no less at each of the two
 more_at_pair : (x y : Cut) (k m : ℕ) → y.part * total x < x.part * total y → SaysNoLess x y (k ∷ []) → SaysNoLess x y (m ∷ [])
     → SaysMore x y (k ∷ m ∷ [])
 more_at_pair x y k m less first last = omega (arith, less, first, last)

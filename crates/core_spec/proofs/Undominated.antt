@@ -1,4 +1,4 @@
--- Core cuts are tight at their hubs, and no cut that is tight there dominates them.
+-- Pareto-optimal cuts are tight at their hubs, and no cut that is tight there dominates them.
 use Rattle.std.proofs.Common.{◌≡◌, ℕ, ◌+◌, ◌*◌, ◌≤◌, List, [], ◌∷◌, length, zip, sum_by, None, ap, arith}
 use Rattle.std.specs.List.{AllZip}
 use Rattle.std.proofs.lemmas.List.Sums.{sum_by-cons}
@@ -13,7 +13,7 @@ use Rattle.core_spec.proofs.Covers.{core_outweighs}
 use Rattle.core_spec.proofs.TightDuals.{loads_by_duals, least_costs, set_cost_by_least, IsTightDual, tight_each}
 use Rattle.core_spec.proofs.Sides.{dominating_outweighs}
 
--- ---- a core cut is tight
+-- ---- a Pareto-optimal cut is tight
 
 core_prices : (p : Problem) (hubs : List ℕ) (part : ℕ) (cs : List (ℕ × ℕ)) (ds : List Prices) (proofs : List CoreProof)
     → length proofs ≡ length ds → AllZip (λ c t. IsCoreDual p hubs part c t.0 t.1) cs (zip ds proofs)

@@ -1,5 +1,5 @@
--- Core cuts: cuts with a proof, commodity by commodity, that no cut which is tight at the same hubs dominates them.
--- The proof of a commodity is a combination of ways, which no dual that is tight at the hubs can beat.
+-- Pareto-optimal cuts. A proof for each commodity shows that no cut which is tight at the same hubs dominates them.
+-- The proof of a commodity is a combination of ways. No dual that is tight at the hubs can beat it.
 use Rattle.std.specs.Prelude.{◌≡◌, ℕ, ◌+◌, ◌*◌, ◌^◌, ◌≤◌, List, length, sum_by, zip, All, Contains, None, nat_eq, ◌||◌, if◌then◌else◌}
 use Rattle.std.specs.List.{AllZip}
 use Rattle.std.specs.Int.{◌∣◌}
@@ -46,8 +46,8 @@ pub record IsByFlow (carried x : ℕ) : Type 0 where
   pub divides : carried ∣ x
   pub limit : x ≤ 10 ^ 20 * carried
 
--- the ways are taken in all as often as the price counts, and through each node at most as often as the node counts: once, and a
--- hub so many turns, twice each, more
+-- the ways are taken in all as often as the price counts, and through each node at most as often as the node counts:
+-- once, and a hub so many turns, twice each, more
 pub record IsCover (p : Problem) (hubs : List ℕ) (proof : CoreProof) : Type 0 where
   pub some_scale : 1 ≤ proof.scale
   pub by_candidates : All (λ way. Contains p.candidates way.0 × Contains p.candidates way.1) proof.ways
@@ -55,8 +55,8 @@ pub record IsCover (p : Problem) (hubs : List ℕ) (proof : CoreProof) : Type 0 
   pub at_hubs : All (λ k. taken_through proof.ways k ≤ proof.scale * (1 + 2 * proof.turns)) hubs
   pub elsewhere : All (λ k. (Contains hubs k → ⊥) → taken_through proof.ways k ≤ proof.scale) p.candidates
 
--- the dual is tight at the hubs, and the cover shows that no tight dual of any part says more by twice its price less
--- all of its values
+-- the dual is tight at the hubs, and the cover proves it Pareto-optimal. The measure is twice the price less all
+-- values, over the part. No dual that is tight at the hubs has a greater one, whatever its part.
 pub record IsCoreDual (p : Problem) (hubs : List ℕ) (part : ℕ) (c : ℕ × ℕ) (dual : Prices) (proof : CoreProof) : Type 0 where
   pub price_by_flow : IsByFlow (flow p c.0 c.1) dual.a
   pub values_by_flow : All (λ k. IsByFlow (flow p c.0 c.1) (value_at dual.u k)) p.candidates
@@ -70,14 +70,15 @@ pub record Mark : Type 0 where
   pub hubs : List ℕ
   pub proofs : List CoreProof
 
--- where cuts may be marked: the length of routes is not limited, any number of hubs will do, and there are 3 to 20 candidates
+-- where cuts may be marked: the length of routes is not limited, any number of hubs will do, and there are 3 to 20
+-- candidates
 pub record MayBeMarked (p : Problem) : Type 0 where
   pub any_length : p.longest ≡ None
   pub any_number : p.wanted ≡ None
   pub some_candidates : 3 ≤ length p.candidates
   pub few_candidates : length p.candidates ≤ 20
 
--- a core cut of the problem
+-- a Pareto-optimal cut of the problem, by its mark
 pub record IsCoreCut (p : Problem) (x : Cut) (mark : Mark) : Type 0 where
   pub may : MayBeMarked p
   pub is_cut : IsCut p x

@@ -1,5 +1,5 @@
--- Which cut says more than another. At a set of open candidates a cut says that their routes cost at least its total
--- less its loads of them, over its part; two cuts are compared with both parts multiplied out.
+-- Which cut dominates another. At a set of open candidates a cut bounds their routing cost from below.
+-- The bound is (total - loads of the set) / part. Two cuts are compared with both parts multiplied out.
 use Rattle.std.specs.Prelude.{ℕ, ◌+◌, ◌*◌, ◌<◌, ◌≤◌, List, sum_by}
 use Rattle.hub_spec.specs.Problem.{Problem}
 use Rattle.hub_spec.specs.Plans.{IsCandidateSet}
@@ -9,15 +9,15 @@ use Rattle.hub_spec.specs.Cuts.{Cut, total, load}
 abbrev pub loads_on : Cut → List ℕ → ℕ
 loads_on cut nodes = sum_by (load cut) nodes
 
--- at this set the cut x says at least what y says
+-- at this set the bound of the cut x is at least that of y
 abbrev pub SaysNoLess : Cut → Cut → List ℕ → Type 0
 SaysNoLess x y set = x.part * total y + y.part * loads_on x set ≤ y.part * total x + x.part * loads_on y set
 
--- and it says more
+-- at this set the bound of x is greater than that of y
 abbrev pub SaysMore : Cut → Cut → List ℕ → Type 0
 SaysMore x y set = x.part * total y + y.part * loads_on x set < y.part * total x + x.part * loads_on y set
 
--- x dominates y: it says no less at any nonempty set of candidates, and more at some
+-- x dominates y: its bound is no less at any nonempty set of candidates, and greater at some
 pub record Dominates (p : Problem) (x y : Cut) : Type 0 where
   pub everywhere : (set : List ℕ) → IsCandidateSet p set → SaysNoLess x y set
   pub somewhere : (set : List ℕ) × IsCandidateSet p set × SaysMore x y set

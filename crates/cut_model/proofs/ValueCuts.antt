@@ -1,4 +1,5 @@
--- The cut of any values is one of the problem: its sums are within the sum rule, and its numbers in range.
+-- The Benders cut from any dual values is a cut of the problem: its sums obey the sum rule, and its numbers are in
+-- range.
 use Rattle.std.proofs.Common.{◌≡◌, ℕ, ◌+◌, ◌*◌, ◌<◌, ◌≤◌, List, [], ◌∷◌, map, sum, sum_by, refl, ap, sym, ◌∙◌, add-mul, mul-le-mul_left, mul-le-mul_right, arith}
 use Rattle.std.specs.List.{AllZip}
 use Rattle.std.proofs.lemmas.List.{length-map}

@@ -1,4 +1,4 @@
--- What a stated cut holds.
+-- What an explicit cut holds.
 use Rattle.std.specs.Prelude.{All}
 use Rattle.hub_spec.specs.Cuts.{Cut}
 use Rattle.cut_model.specs.Runs.{run_duals, IsRunOf, HaveEnds}

@@ -1,4 +1,4 @@
--- Values whose rows are lent to be written.
+-- Values whose rows are borrowed to be written.
 use Rattle.std.specs.Prelude.{ℕ, List, ◌++◌, length, take, drop}
 use Rattle.std.specs.Borrow.{Lends, MutBor, Fml, Array, u32}
 use Rattle.cut_model.specs.ValueRows.{ValueRows}

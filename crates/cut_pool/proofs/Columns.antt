@@ -60,7 +60,7 @@ column_at f es xs c d e number =
     ap (λ ys. get_or ys (c - 1) d) (sym e)
     ∙ get_or-map f es (c - 1) (record { cut = by_set [] []; total = 0; loads = [] }) d (omega (arith, number.least, number.most))
 
--- ---- a kept cut that is read
+-- ---- a stored cut that is read
 
 module _ (cuts : List KeptCut) (ks : List Kept) (i : ℕ) (x : KeptCut) (same : map kept_of cuts ≡ ks) (within : i < length ks)
     (read : x ≡ get_or cuts i x) where

@@ -1,4 +1,4 @@
--- A kept cut is a cut, and a certificate may list it. Its part is known, and its mark, if it has one.
+-- A stored cut is a cut, and a certificate may list it. Its part is known, and its mark, if it has one.
 use Rattle.std.proofs.Common.{◌≡◌, refl}
 use Rattle.std.specs.Prelude.{IfSome}
 use Rattle.hub_spec.specs.Problem.{Problem, IsProblem}

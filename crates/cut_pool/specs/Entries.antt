@@ -1,16 +1,16 @@
--- The cuts that a search keeps, by number.
+-- The stored cuts of a search, by number.
 use Rattle.std.specs.Prelude.{◌≡◌, ◌≢◌, ℕ, ◌-◌, ◌/◌, ◌≤◌, max, List, [], ◌∷◌, length, map, slice_index_or, All, Some}
 use Rattle.hub_spec.specs.Cuts.{Cut, total}
 use Rattle.cut_model.specs.MarkedCuts.{MarkedCut}
 use Rattle.cut_pool.specs.Kept.{Kept, by_set, cored, given, kept_set, kept_part, node_loads}
 
--- what is kept of a separated cut before it has a number: its hub set, its total and its load of each node
+-- what is stored of a separated cut before it has a number: its hub set, its total and its load of each node
 pub record Sums : Type 0 where
   pub hubs : List ℕ
   pub total : ℕ
   pub loads : List ℕ
 
--- what is kept of a cut: what its duals can be made from, its total and its load of each node
+-- what is stored of a cut: what its duals can be made from, its total and its load of each node
 pub record Entry : Type 0 where
   pub cut : Kept
   pub total : ℕ
@@ -25,11 +25,11 @@ pub record PoolState : Type 0 where
 abbrev pub entry_of : Sums → List ℕ → Entry
 entry_of sums order = record { cut = by_set sums.hubs order; total = sums.total; loads = sums.loads }
 
--- the entry that a core cut between n nodes becomes, with its sums
+-- the entry that a Pareto-optimal cut between n nodes becomes, with its sums
 abbrev pub core_entry : ℕ → MarkedCut → Entry
 core_entry n x = record { cut = cored x; total = total x.cut; loads = node_loads n x.cut }
 
--- the entry that a given cut between n nodes becomes, with its sums
+-- the entry that an imported cut between n nodes becomes, with its sums
 abbrev pub given_entry : ℕ → Cut → Entry
 given_entry n cut = record { cut = given cut; total = total cut; loads = node_loads n cut }
 
@@ -72,13 +72,13 @@ abbrev pub most_unit : ℕ → List ℕ → ℕ
 most_unit part [] = 0
 most_unit part (u ∷ us) = max (u / part) (most_unit part us)
 
--- the greatest load of a cut that is kept with its duals, a core cut or a given one; 0 for another cut
+-- the greatest load of a cut that is stored with its duals, a Pareto-optimal or an imported one; 0 for another cut
 abbrev pub kept_most : Kept → List ℕ → ℕ
 kept_most (cored x) loads = most_unit x.cut.part loads
 kept_most (given cut) loads = most_unit cut.part loads
 kept_most _ loads = 0
 
--- the greatest load of the cuts that are kept with their duals
+-- the greatest load of the cuts that are stored with their duals
 abbrev pub most_stated : List Entry → ℕ
 most_stated [] = 0
 most_stated (e ∷ es) = max (kept_most e.cut e.loads) (most_stated es)

@@ -31,17 +31,17 @@ pub record IsUnlimited (p : Problem) : Type 0 where
   pub any_length : p.longest ≡ None
   pub any_number : p.wanted ≡ None
 
--- each cut of the finding is made anew: none is a core cut, and none was given
+-- the duals of each cut are computed again: none is Pareto-optimal with a mark, and none was imported
 abbrev pub AreRemade : Found → Type 0
 AreRemade found = All IsRemade found.cuts.cuts
 
--- a version that has a text for each finding of the problem with these cuts: the second, and where the problem is unlimited and
--- each cut is made anew the first too
+-- the versions that can list each finding of the problem with these cuts: always the second. The
+-- first is one too where the problem is unlimited and the duals of each cut are computed again
 abbrev pub IsVersionFor : Problem → List Kept → ℕ → Type 0
 IsVersionFor p cuts version = ((version ≡ 1) × IsUnlimited p × All IsRemade cuts) ⊎ IsSecond version
 
--- its cuts fit, and its lines are those of a tree with which it is a certificate of the problem, and in each of these
--- versions within the ranges of a certificate
+-- its cuts fit. Its lines are those of a tree with which it is a certificate of the problem. In each of these versions
+-- it is within the ranges of a certificate
 pub record IsProved (p : Problem) (found : Found) : Type 0 where
   pub fit : All (IsKeptFor p) found.cuts.cuts
   pub tree : Tree

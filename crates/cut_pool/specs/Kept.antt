@@ -1,4 +1,4 @@
--- The cuts that a search keeps, by what their duals are made from.
+-- The stored cuts of a search, by what their duals are made from.
 use Rattle.std.specs.Prelude.{◌≡◌, ℕ, ◌-◌, List, [], map, All, Option, Some, None}
 use Rattle.std.specs.List.{range_with_len, slice_index_or}
 use Rattle.hub_spec.specs.Problem.{Problem}
@@ -13,22 +13,22 @@ use Rattle.cut_model.specs.ValueRows.{ValueRows, AreValuesFor, value_cut}
 use Rattle.cut_pool.specs.declared.kept.KeptCut.{KeptCut}
 use Rattle.cut_pool.specs.declared.kept.KeptCut.TheVariants.{Values, Set, Core, Given}
 
--- values of the candidates, or a hub set and an order of the other candidates, or a core cut with its mark, or a cut that was
--- given with its duals
+-- dual values of the candidates; or a hub set and an order of the other candidates; or a Pareto-optimal cut with its
+-- mark; or an imported cut with its duals
 pub data Kept : Type 0 where
   by_values : ValueRows → Kept
   by_set : (hubs order : List ℕ) → Kept
   cored : MarkedCut → Kept
   given : Cut → Kept
 
--- what the code keeps stands for
+-- the cut that a stored cut of the code stands for
 abbrev pub kept_of : KeptCut → Kept
 kept_of (Values rows) = by_values rows
 kept_of (Set hubs order) = by_set hubs order.items
 kept_of (Core x) = cored x
 kept_of (Given cut) = given cut
 
--- the hub set that a kept cut is of, if it is of one
+-- the hub set from which a stored cut is, if it is from one
 abbrev pub kept_set : Kept → Option (List ℕ)
 kept_set (by_set hubs order) = Some hubs
 kept_set (cored x) = Some x.mark.hubs
@@ -39,18 +39,18 @@ abbrev pub kept_mark : Kept → Option Mark
 kept_mark (cored x) = Some x.mark
 kept_mark _ = None
 
--- its duals are made anew, with the part 1: it is no core cut, and was not given
+-- its duals are computed again, with the part 1: it is no Pareto-optimal cut with a mark, and was not imported
 abbrev pub IsRemade : Kept → Type 0
 IsRemade (cored x) = ⊥
 IsRemade (given cut) = ⊥
 IsRemade _ = Unit {0}
 
--- it was separated for a hub set, or given
+-- it was separated for a hub set, or imported
 abbrev pub IsPooled : Kept → Type 0
 IsPooled (by_values rows) = ⊥
 IsPooled _ = Unit {0}
 
--- the cut of it
+-- its cut
 abbrev pub kept_cut : Problem → Kept → Cut
 kept_cut p (by_values rows) = value_cut p rows
 kept_cut p (by_set hubs order) = set_cut p hubs order
@@ -74,18 +74,18 @@ IsKeptFor p (by_set hubs order) = IsHubSet p hubs × IsOrder p hubs order
 IsKeptFor p (cored x) = IsCoreCut p x.cut x.mark × IsCutInRange p.size x.cut × IsMarkInRange p.size x.mark
 IsKeptFor p (given cut) = IsCut p cut × IsCutInRange p.size cut
 
--- kept cuts, the total of each, and its load of each node
+-- stored cuts, the total of each, and its load of each node
 pub record KeptList : Type 0 where
   pub cuts : List Kept
   pub totals : List ℕ
   pub loads : List (List ℕ)
 
--- kept cuts with their sums, and how many more can be put for certain
+-- stored cuts with their sums, and how many more can be added for certain
 pub record Stored : Type 0 where
   pub kept : KeptList
   pub spare : ℕ
 
--- the kept cut of this number, counted from 1
+-- the stored cut of this number, counted from 1
 abbrev pub kept_at : List Kept → ℕ → Kept
 kept_at cuts c = slice_index_or cuts (c - 1) (by_set [] [])
 
@@ -93,7 +93,7 @@ kept_at cuts c = slice_index_or cuts (c - 1) (by_set [] [])
 abbrev pub node_loads : ℕ → Cut → List ℕ
 node_loads n cut = map (load cut) (range_with_len 0 n)
 
--- the kept cuts fit the problem, and the sums are those of their cuts
+-- the stored cuts fit the problem, and the sums are those of their cuts
 pub record AreKeptFor (p : Problem) (k : KeptList) : Type 0 where
   pub fit : All (IsKeptFor p) k.cuts
   pub are_totals : k.totals ≡ map total (kept_cuts p k.cuts)

@@ -1,4 +1,4 @@
--- What stands side by side in a pool, one item a cut.
+-- The columns of a pool, with one item for each cut.
 use Rattle.std.specs.Prelude.{◌≡◌, ℕ, ◌<◌, List, [], ◌∷◌, Option, Some, None, map, slice_index_or}
 use Rattle.cut_pool.specs.Kept.{Kept, by_set, cored, kept_set}
 use Rattle.cut_pool.specs.Entries.{Entry}
@@ -7,17 +7,17 @@ use Rattle.cut_pool.specs.Entries.{Entry}
 abbrev pub most_kept : ℕ
 most_kept = 4294967295
 
--- a kept cut is of a hub set
+-- a stored cut is from a hub set
 abbrev pub IsOfSet : Kept → Type 0
 IsOfSet (by_set hubs order) = Unit {0}
 IsOfSet (cored x) = Unit {0}
 IsOfSet _ = ⊥
 
--- the hub set of each kept cut that is of one
+-- the hub set of each stored cut that is from one
 abbrev pub sets_of : List Kept → List (Option (List ℕ))
 sets_of cuts = map kept_set cuts
 
--- the entries of kept cuts, totals and loads that stand side by side
+-- the entries of stored cuts, totals and loads that are side by side
 abbrev pub entries_of : List Kept → List ℕ → List (List ℕ) → List Entry
 entries_of (k ∷ ks) (t ∷ ts) (l ∷ ls) = record { cut = k; total = t; loads = l } ∷ entries_of ks ts ls
 entries_of _ _ _ = []

@@ -19,8 +19,8 @@ state_of s = record {
   spare = spare_of s;
 }
 
--- each cut has its sums, no set stands twice, the index has each, the loads in 32 bits and the sums for one unit are those of
--- the entries, and so is the greatest load of a cut that is kept with its duals
+-- each cut has its sums, no set is there twice, and the index has each set. The loads in 32 bits and the sums for one
+-- unit are those of the entries. So is the greatest load of a cut that is stored with its duals
 pub record IsPool (s : Inside) : Type 0 where
   pub most : length s.cuts.kept.cuts ≤ most_kept
   pub totals : length s.cuts.kept.totals ≡ length s.cuts.kept.cuts

@@ -15,7 +15,7 @@ unit_row e = map (λ u. u / entry_part e) e.loads
 pub record AreShortLoads (entries : List Entry) (s : Shorts) : Type 0 where
   pub row : (k : ℕ) → k < length s.rows → slice_index_or s.rows k [] ≡ map (λ e. slice_index (unit_row e) k / 2 ^ s.halvings) entries
 
--- the same of loads that may not be kept
+-- the same where the loads may not be stored
 abbrev pub AreShortIfKept : List Entry → Option Shorts → Type 0
 AreShortIfKept entries kept = (s : Shorts) → kept ≡ Some s → AreShortLoads entries s
 

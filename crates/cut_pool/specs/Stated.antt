@@ -1,8 +1,8 @@
--- Cuts that are kept with their duals.
+-- Explicit cuts: they are stored with their duals.
 use Rattle.std.specs.Prelude.{ℕ, List}
 use Rattle.cut_pool.specs.Kept.{Kept, cored, given}
 
--- a core cut or a given one
+-- a Pareto-optimal cut or an imported one
 abbrev pub IsStated : Kept → Type 0
 IsStated (cored x) = Unit {0}
 IsStated (given cut) = Unit {0}

@@ -1,4 +1,4 @@
--- The fields of the sums of a cut that is kept with its duals.
+-- The fields of the sums of an explicit cut, which is stored with its duals.
 use Rattle.std.specs.Prelude.{◌≡◌, ◌/◌}
 use Rattle.cut_pool.specs.Entries.{most_unit}
 use Rattle.cut_pool.specs.Stated.{PartSums}

@@ -1,11 +1,12 @@
-//! The cut pool of a search: stored cuts with their numbers, hub sets, totals and loads, and what a search found with them.
+//! The cut pool of a search: stored cuts with their numbers, hub sets, totals and loads, and what a search found with
+//! them.
 //!
-//! A [`KeptCut`] is what the duals of a cut can be computed again from, values of the candidates or a hub set with an
-//! order of the others; or it is a Pareto-optimal cut with its mark, or a cut that was given, with all of their duals. A
-//! [`CutStore`] has them side by side with their sums, and [`KeptCuts`] numbers them from 1. A [`Pool`] finds the cut of a
-//! hub set besides, by search in an index, keeps no two of one set, and once room is reserved adds a cut for certain. It
-//! lends the sums that bounds and masters are made of, whole or for one unit of a cut's part. A [`Found`] is a plan with
-//! the cuts and the tree that bound what any plan costs.
+//! A [`KeptCut`] holds what the duals of a cut can be computed from again: dual values of the candidates, or a hub set
+//! with an order of the others. Or it holds a Pareto-optimal cut with its mark, or an imported cut, with all of their
+//! duals. A [`CutStore`] has them side by side with their sums, and [`KeptCuts`] numbers them from 1. A [`Pool`] also
+//! finds the cut of a hub set, by search in an index, and has at most one for each set. Once memory is reserved, it
+//! adds a cut for certain. It gives the sums of which bounds and masters are made, whole or for one unit of a cut's
+//! part. A [`Found`] is a plan with the cuts and the tree that bound the cost of every plan from below.
 //!
 //! In the order of reading: `packed` (values without their zeros), `kept` with `laws`, `store`, `unit_columns`,
 //! `short_loads`, `stated_sums`, `set_cuts` and `places` (the index), `pool`, `found`. Costs are in 10^-12; nodes are

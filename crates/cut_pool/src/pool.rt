@@ -31,11 +31,11 @@ pub struct Pool {
     cuts: CutStore,
     // The places of the cuts that are of hub sets, from 0, in the order of the members of these.
     by_set: Vec<u32>,
-    // The loads in 32 bits, until they are given up.
+    // The loads in 32 bits, until they are dropped.
     short: Option<ShortLoads>,
     // Totals and loads for one unit of each cut's part.
     units: UnitColumns,
-    // The greatest load of a cut that is kept with its duals, for one unit of its part.
+    // The greatest load of a cut that is stored with its duals, for one unit of its part.
     most_load: u128,
 }
 
@@ -204,10 +204,10 @@ impl Pool {
         }
     }
 
-    // Adds a cut that is kept with its duals, with its sums, under the next number. Where it is of a hub set, that has no
-    // cut yet.
+    // Adds a cut that is stored with its duals, with its sums, under the next number. If it is from a hub set, that set
+    // has no cut yet.
     //
-    // The cut comes back where it is not added, and the cuts stay as they were.
+    // If the cut is not added, it is returned, and the pool stays as it was.
     fn add_stated(&mut self, cut: KeptCut, sums: StatedSums) -> Result<u64, KeptCut>
         requires stated { IsStated (kept_of cut) }
         requires part { sums.part ≡ kept_part (kept_of cut) }

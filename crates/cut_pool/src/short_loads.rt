@@ -94,7 +94,7 @@ impl ShortLoads {
     }
 }
 
-/// Takes memory for this many more cuts in each row, if rows are kept.
+/// Reserves memory for this many more cuts in each row, if rows are stored.
 pub(crate) fn reserve_kept(kept: &mut Option<ShortLoads>, cuts: usize) -> Result<(), AllocError>
     ensures { kept.new ≡ kept.old }
 {
@@ -104,9 +104,9 @@ pub(crate) fn reserve_kept(kept: &mut Option<ShortLoads>, cuts: usize) -> Result
     }
 }
 
-/// The loads with those of one cut more, the first or a later one, where they are kept.
+/// The loads with those of one more cut, the first or a later one, if loads are stored.
 ///
-/// They are given up where the cut has another number of loads than those before, and where memory is wanting.
+/// They are dropped where the cut has another number of loads than those before, or where memory runs out.
 pub(crate) fn with_cut(
     kept: Option<ShortLoads>,
     is_first: bool,

@@ -11,7 +11,7 @@ use cut_model::StatedCut;
 use std::alloc::{AllocError, Global};
 use std::marker::Model;
 
-/// The sums of a Pareto-optimal cut or a given one, in 10^-12.
+/// The sums of a Pareto-optimal cut or an imported one, in 10^-12.
 #[derive(Drop)]
 pub(crate) struct StatedSums {
     /// The part of the cut.

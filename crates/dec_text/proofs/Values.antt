@@ -147,7 +147,7 @@ take_both zero xs ys = let none : 0 - length xs ≡ 0 = omega arith in ap (λ n.
 take_both (suc kept) [] ys = let all : suc kept ≡ suc kept - 0 = omega arith in ap (λ n. take n ys) all
 take_both (suc kept) (x ∷ xs) ys = ap (λ l. x ∷ l) (take_both kept xs ys ∙ (let left : kept - length xs ≡ suc kept - suc (length xs) = omega arith in ap (λ n. take kept xs ++ take n ys) left))
 
--- the front of two rows of digits, read one after the other
+-- a prefix of two rows of digits, read one after the other
 pub front_of_both : (most kept a b v : ℕ) (xs ys : List ℕ) → a ≡ min kept (length xs) → b ≡ min (kept - a) (length ys) → v ≡ min most (digits_value_after 10 0 (take a xs))
     → min most (digits_value_after 10 v (take b ys)) ≡ min most (digits_value 10 (take kept (xs ++ ys)))
 front_of_both most kept a b v xs ys ea eb ev =

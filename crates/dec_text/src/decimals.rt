@@ -53,7 +53,7 @@ fn read_magnitude(token: &[u8], places: u32) -> Option<u128>
     Some(scaled(whole, decimals, places as usize + up, decimals.len() + down))
 }
 
-// What stands before the point, and what stands behind it.
+// The part before the point, and the part behind it.
 fn parts_of_mantissa(token: &[u8]) -> (&[u8], &[u8])
     ensures whole { result.0.now ≡ whole_part token.now }
     ensures decimals { result.1.now ≡ fraction token.now }
@@ -149,7 +149,7 @@ fn without_sign(bytes: &[u8]) -> &[u8]
     }
 }
 
-// What stands before the exponent's mark, and what stands behind it, where there is one.
+// The part before the exponent's mark, and the part behind it, where there is one.
 #[tactic(auto, using(crate::proofs::Marks::marked, crate::proofs::Marks::unmarked, crate::proofs::Marks::nothing_behind))]
 fn split_at_exponent(bytes: &[u8]) -> (&[u8], Option<&[u8]>)
     ensures front { result.0.now ≡ before_first is_exponent_mark bytes.now }
@@ -164,7 +164,7 @@ fn split_at_exponent(bytes: &[u8]) -> (&[u8], Option<&[u8]>)
     (front, None)
 }
 
-// What stands before the point, and what stands behind it.
+// The part before the point, and the part behind it.
 fn split_at_point(bytes: &[u8]) -> (&[u8], &[u8])
     ensures front { result.0.now ≡ before_first is_point bytes.now }
     ensures back { result.1.now ≡ after_first is_point bytes.now }
@@ -173,7 +173,7 @@ fn split_at_point(bytes: &[u8]) -> (&[u8], &[u8])
     split_around(bytes, point_at(bytes))
 }
 
-// What stands before and behind the byte at that place.
+// The parts before and behind the byte at that place.
 fn split_around(bytes: &[u8], at: usize) -> (&[u8], &[u8])
     requires { at ≤ length bytes.now }
     ensures front { result.0.now ≡ take at bytes.now }

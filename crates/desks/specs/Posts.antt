@@ -1,4 +1,4 @@
--- What lies between two desks.
+-- The messages in a ring between two endpoints.
 use Rattle.std.specs.Prelude.{◌≡◌, List, [], ◌∷◌}
 use Rattle.std.specs.Arc.{arc_value}
 use Rattle.rtrb.specs.declared.producer.Producer.{Producer}

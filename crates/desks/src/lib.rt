@@ -1,16 +1,17 @@
 //! Message passing between threads: a ring for each ordered pair of threads, without locks or waiting.
 //!
-//! Each of several threads has a [`Desk`]. What one tells goes to all others, who hear it when they ask; nobody waits, and
-//! nothing is locked. All desks that were made together have one key. What may be told holds under that key ([`Told`]), so
-//! whoever hears it knows as much, and nothing of when or by whom it was told. An item may be lost where too many lie between
-//! two desks, so a listener has to get on without.
+//! Each of several threads has an endpoint ([`Desk`]). What one thread sends goes to all others, and each receives it
+//! when it polls its rings. Nobody waits, and nothing is locked. All endpoints that were made together have one key. An
+//! item may be sent only if it holds under that key ([`Told`]). So its receiver knows that it holds, but not when or by
+//! whom it was sent. An item is lost where the ring between two endpoints is full, so a receiver must get on without
+//! it.
 //!
-//! Several who do the same can share its turns over their desks, as [`Partner`]s: each draws a number, works out the turn that
-//! this number stands for among them, and tells it to the others, who hear it. Which turn a number stands for is theirs to
-//! settle, and no proof rests on who draws what.
+//! Threads that run one computation can share its numbered tasks, as peers ([`Partner`]). Each draws a task number,
+//! computes the task, and sends the result to the others. The peers agree which task a number means. No proof depends
+//! on who draws which number.
 //!
-//! In the order of reading: `telling` (what may be told), `posts` (what lies between two desks), `places` (the desks), `tickets`
-//! (the numbers of turns) and `partners` (who share turns).
+//! In the order of reading: `telling` (what may be sent), `posts` (the messages in a ring), `places` (the endpoints),
+//! `tickets` (task numbers) and `partners` (the peers).
 #![tactic(auto)]
 
 mod partners;

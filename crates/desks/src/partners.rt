@@ -12,23 +12,23 @@ use std::marker::Model;
 use std::sync::Arc;
 use std::thread::yield_now;
 
-// How often a partner looks for a turn that another works out.
+// How often a peer polls for the result of a task that another computes.
 const MOST_LOOKS: u32 = 1 << 24;
 
-// After so many looks a partner lets another thread run.
+// After so many polls a peer lets another thread run.
 const LOOKS_AT_ONCE: u32 = 64;
 
 /// A peer. Several peers run one computation; each task of it is computed by one peer, who sends the result to the
 /// others.
 ///
-/// It is seen as the key of its desk.
+/// In contracts it is the key of its endpoint.
 #[derive(Drop)]
 pub struct Partner<'t, K: Drop, T: Told<K> + Drop> {
     tickets: &'t Tickets,
     desk: Desk<K, T>,
-    // What was told and not used yet, its own among it.
+    // The results received and not used yet, and its own.
     kept: Vec<Arc<T, Global>>,
-    // The number that it has drawn.
+    // The task number that it has drawn.
     ticket: u64,
 }
 
@@ -44,7 +44,7 @@ impl<'t, K: Drop, T: Told<K> + Drop> Model for Partner<'t, K, T> {
 }
 
 impl<'t, K: Copy + Drop, T: Told<K> + Drop> Partner<'t, K, T> {
-    /// The peer at this desk, with its first task number drawn.
+    /// The peer at this endpoint, with its first task number drawn.
     pub fn new(alloc: Global, tickets: &'t Tickets, desk: Desk<K, T>) -> Partner<'t, K, T>
         ensures { result ≡ desk }
     {
@@ -98,7 +98,7 @@ impl<'t, K: Copy + Drop, T: Told<K> + Drop> Partner<'t, K, T> {
     }
 }
 
-// What was worked out, to be held by several.
+// The result of a task, to be held by several.
 fn shared<T: Drop>(alloc: Global, told: T) -> Result<Arc<T, Global>, AllocError>
     ensures { IfOk result (λ a. arc_value a ≡ told) }
 {
@@ -108,7 +108,7 @@ fn shared<T: Drop>(alloc: Global, told: T) -> Result<Arc<T, Global>, AllocError>
     }
 }
 
-// Takes what this turn came to out of what is kept, which holds under the key of the desk.
+// Takes the result of this task out of the stored results, which hold under the key of the endpoint.
 fn take_out<K: Copy + Drop, T: Told<K> + Drop>(
     _desk: &Desk<K, T>,
     kept: &mut Vec<Arc<T, Global>>,
@@ -127,7 +127,7 @@ fn take_out<K: Copy + Drop, T: Told<K> + Drop>(
     None
 }
 
-// Passes a moment, after so many looks another thread's.
+// Waits a moment. After every 64 polls it lets another thread run.
 fn pause(look: u32) {
     if look % LOOKS_AT_ONCE == LOOKS_AT_ONCE - 1 {
         yield_now();

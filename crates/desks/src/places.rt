@@ -1,4 +1,4 @@
-//! Desks: the ends of the rings.
+//! Endpoints: the ends of the rings.
 
 ghost use Rattle.std.specs.Prelude.{◌≡◌, length, All, IfOk, IfSome};
 ghost use Rattle.std.specs.Arc.{arc_value};
@@ -11,12 +11,12 @@ use std::alloc::{AllocError, Global};
 use std::marker::Model;
 use std::sync::Arc;
 
-// How many items may lie between two desks. Where more are told they are lost.
+// How many items the ring from one endpoint to another may hold. Where more are sent they are lost.
 const ROOM: usize = 64;
 
-/// A thread's desk, with a ring to and from each other desk of its key.
+/// A thread's endpoint, with a ring to and from each other endpoint of its key.
 ///
-/// It is seen as its key.
+/// In contracts it is its key.
 #[derive(Drop)]
 pub struct Desk<K: Drop, T: Told<K> + Drop> {
     key: K,
@@ -36,7 +36,7 @@ impl<K: Drop, T: Told<K> + Drop> Model for Desk<K, T> {
 }
 
 impl<K: Copy + Drop, T: Told<K> + Drop> Desk<K, T> {
-    // A desk of this key, with no way.
+    // An endpoint of this key, with no ring.
     fn new(alloc: Global, key: K) -> Desk<K, T>
         ensures { result ≡ key }
     {
@@ -47,7 +47,7 @@ impl<K: Copy + Drop, T: Told<K> + Drop> Desk<K, T> {
         }
     }
 
-    /// Sends the item to all other desks. It is lost where a ring is full.
+    /// Sends the item to all other endpoints. It is lost where a ring is full.
     pub fn tell(&mut self, item: &Arc<T, Global>) -> Result<(), AllocError>
         requires holds { T.holds self.old (arc_value item.now) }
         ensures { self.new ≡ self.old }
@@ -59,7 +59,7 @@ impl<K: Copy + Drop, T: Told<K> + Drop> Desk<K, T> {
         Ok(())
     }
 
-    /// Appends the items received from other desks to `items`.
+    /// Appends the items received from other endpoints to `items`.
     pub fn hear(&mut self, items: &mut Vec<Arc<T, Global>>) -> Result<(), AllocError>
         requires held { All (λ a. T.holds self.old (arc_value a)) items.old.items }
         ensures key { self.new ≡ self.old }
@@ -72,7 +72,7 @@ impl<K: Copy + Drop, T: Told<K> + Drop> Desk<K, T> {
     }
 }
 
-// Adds what lies on the way, where this key has gone.
+// Appends the items in this ring, where the key has gone.
 fn hear_from<K: Drop, T: Told<K> + Drop>(
     key: &K,
     from: &mut Consumer<Post<K, T>, Global, OfOneKey>,
@@ -92,7 +92,7 @@ fn hear_from<K: Drop, T: Told<K> + Drop>(
     Ok(())
 }
 
-// The next item on the way, if one lies there.
+// The next item in the ring, if there is one.
 fn next<K: Drop, T: Told<K> + Drop>(
     _key: &K,
     from: &mut Consumer<Post<K, T>, Global, OfOneKey>,
@@ -107,7 +107,7 @@ fn next<K: Drop, T: Told<K> + Drop>(
     }
 }
 
-// A way on which the key has gone.
+// Adds a ring through which the key has gone: its sending end to `to`, its receiving end to `from`.
 fn link<K: Copy + Drop, T: Told<K> + Drop>(
     alloc: Global,
     key: K,
@@ -130,7 +130,7 @@ fn link<K: Copy + Drop, T: Told<K> + Drop>(
     Ok(())
 }
 
-// Both ways between two desks of one key.
+// Links two endpoints of one key, with a ring each way.
 fn link_both<K: Copy + Drop, T: Told<K> + Drop>(
     alloc: Global,
     one: &mut Desk<K, T>,
@@ -144,7 +144,7 @@ fn link_both<K: Copy + Drop, T: Told<K> + Drop>(
     link(alloc, one.key, &mut other.to, &mut one.from)
 }
 
-/// As many desks of this key as `count`, with a ring for each ordered pair.
+/// `count` endpoints of this key, with a ring for each ordered pair.
 pub fn desks<K: Copy + Drop, T: Told<K> + Drop>(
     alloc: Global,
     key: K,

@@ -1,4 +1,4 @@
-//! The messages between two desks.
+//! The messages between two endpoints.
 
 ghost use Rattle.desks.specs.Posts.{Follows};
 
@@ -7,12 +7,12 @@ use rtrb::Protocol;
 use std::alloc::Global;
 use std::sync::Arc;
 
-/// A message between two desks: first the key, and then items.
+/// A message between two endpoints: first the key, and then items.
 #[derive(Drop)]
 pub enum Post<K, T> {
     /// The key.
     Key(K),
-    /// An item, which several desks may hold.
+    /// An item, which several endpoints may hold.
     Item(Arc<T, Global>),
 }
 

@@ -106,7 +106,7 @@ impl Adviser {
         self.sets.scale(&self.lengths, wanted)
     }
 
-    /// An estimate of the bound of the node by the Benders cut of the values.
+    /// An estimate of the node's bound by the Benders cut from the dual values.
     pub(crate) fn bound(&self) -> i128 {
         self.state.bound(&self.lengths, &self.node.sides)
     }

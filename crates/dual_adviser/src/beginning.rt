@@ -214,7 +214,7 @@ impl Adviser {
     }
 }
 
-/// Makes the bench anew where its core is another than these places.
+/// Makes the workspace again where its core is not that of these places.
 fn renew(
     alloc: Global,
     lengths: &Lengths,

@@ -1,4 +1,5 @@
--- What advice is for: so many nodes, and so many places. A place is a candidate, counted from 0.
+-- The shape of an instance for the heuristics: the number of nodes, and the number of places. A place is a candidate,
+-- counted from 0.
 use Rattle.std.specs.Prelude.{ℕ, ◌≡◌, ◌*◌, ◌≤◌, length}
 use Rattle.hub_spec.specs.Limits.{most_nodes}
 use Rattle.hub_spec.specs.Problem.{Problem}

@@ -13,10 +13,11 @@
 //! Nothing here is exact or trusted. What is proved is that each call ends without a fault, and that lists keep their
 //! lengths.
 //!
-//! In the order of reading: `ramps` (penalties and orders by loads), `waits` (back-off), `sums` (total and loads of all
-//! duals, and their bound), `state` (all duals), `seen` (the core: the places that passes see), `steps` (a mix of old
-//! values and new), `origins` (the duals of one origin), `schedule` (the order of the origins), `passes` and `sharing`
-//! (a pass by one worker, or by several), `trials` (a pass that is undone, for strong branching).
+//! In the order of reading: `ramps` (penalties and orders by loads), `waits` (back-off), `sums` (total and loads of
+//! all duals, and their bound), `state` (all duals). Then `seen` (the core: the places that passes see), `steps` (a
+//! mix of old values and new), `origins` (the duals of one origin). Last `schedule` (the order of the origins),
+//! `passes` and `sharing` (a pass by one worker, or by several), `trials` (a pass that is undone, for strong
+//! branching).
 #![tactic(auto)]
 
 mod origins;

@@ -1,4 +1,4 @@
--- A value that meets all that is asked of a node is at least the least value that the node may have.
+-- A value that meets all that routes ask of a node is at least the least value that the node may have.
 use Rattle.std.proofs.Common.{◌≡◌, ℕ, zero, suc, ◌+◌, ◌-◌, ◌<◌, ◌≤◌, List, ◌++◌, length, get_or, take, map, Some, All, Contains, ⊎_elim, ap, sym, subst, ◌∙◌, arith}
 use Rattle.std.proofs.lemmas.Bool.{cases_lt, false≢true}
 use Rattle.std.proofs.lemmas.List.{get_or-take, get_or_default, length-take-le}
@@ -39,7 +39,7 @@ edge_covered p c e k m f dual first last apart there =
     ⊎_elim (λ forth. omega (arith, forth.1, dual.two_hubs k m first last apart forth.0))
     (λ back. omega (arith, back.1, dual.two_hubs m k last first (λ same. apart (sym same)) back.0)) (edge_is p c k m f there)
 
--- what a feasible dual with nothing on the hubs gives a node meets all that is asked of it
+-- the value that a feasible dual with nothing on the hubs gives a node meets all that routes ask of the node
 dual_meets : (p : Problem) (hubs order : List ℕ) (c : ℕ × ℕ) (e : Prices) (earlier : List ℕ) (k : ℕ) → IsDual p 1 c e
     → Contains p.candidates k → ((m : ℕ) → Contains hubs m → Contains p.candidates m) → ((m : ℕ) → Contains hubs m → m ≡ k → ⊥)
     → ((m : ℕ) → Contains earlier m → Contains p.candidates m) → ((m : ℕ) → Contains earlier m → m ≡ k → ⊥)

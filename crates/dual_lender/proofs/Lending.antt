@@ -1,4 +1,4 @@
--- Duals that a lender makes: they are those of the kept cut.
+-- Duals that the workspace makes: they are those of the stored cut.
 use Rattle.std.proofs.Common.{◌≡◌, ℕ, ◌+◌, ◌*◌, ◌<◌, ◌≤◌, List, length, map, All, refl, sym, ap, subst, ◌∙◌, div-add-mod', arith}
 use Rattle.std.proofs.lemmas.List.{length-map, get_or-map, ext_get_or}
 use Rattle.std.proofs.lemmas.List.Elements.{All-get_or, All-weaker, All-map}
@@ -29,7 +29,7 @@ stated_cut_is : (n : ℕ) (cut : Cut) → length cut.duals ≡ n * n
     → cut ≡ record { part = cut.part; duals = map (λ (c : ℕ × ℕ). stated_dual cut (c.0 * n + c.1)) (commodities n) }
 stated_cut_is n cut long = ap (λ (duals : List Prices). record { part = cut.part; duals = duals }) (stated_duals n cut long)
 
--- a kept cut is that of its part and its duals
+-- a stored cut is that of its part and its duals
 pub kept_cut_is : (p : Problem) (kept : Kept) → IsKeptFor p kept
     → kept_cut p kept ≡ record { part = kept_part kept; duals = map (kept_dual p kept) (commodities p.size) }
 unfolding value_cut set_cut
@@ -38,7 +38,7 @@ kept_cut_is p (by_set hubs order) fits = refl
 kept_cut_is p (cored x) fits = stated_cut_is p.size x.cut fits.1.one_for_each
 kept_cut_is p (given cut) fits = stated_cut_is p.size cut fits.1.one_for_each
 
--- where the duals of an origin can be made, the lender is still ready for the cut
+-- where the duals of an origin can be made, the workspace is still ready for the cut
 legs_stay : (p : Problem) (kept : Kept) (i : ℕ) (s : LenderState) → HasRowOf p kept i s → HasLegsOf p kept s
 legs_stay p (by_values rows) i s row = tt
 legs_stay p (by_set hubs order) i s row = row.ready

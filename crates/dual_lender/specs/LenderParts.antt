@@ -1,4 +1,4 @@
--- The parts of a lender of duals.
+-- The parts of a workspace for duals of stored cuts.
 use Rattle.std.specs.Prelude.{◌≡◌, ◌*◌, ◌≤◌, length, vec_len}
 use Rattle.hub_spec.specs.Cuts.{Prices}
 use Rattle.pareto_cuts.specs.Scratches.{ScratchParts}
@@ -12,6 +12,6 @@ pub record IsValueRoom (s : Inside) : Type 0 where
   pub scratch : s.scratch ≡ length s.tables.candidates
   pub made : length s.tables.candidates ≤ s.made.room
 
--- a lender with what makes the duals, that holds none yet
+-- a workspace with what makes the duals, that holds none yet
 abbrev pub lender_with : RoomState → ScratchParts → (stated : Prices) → LenderState
 lender_with values sets stated = record { values = values; sets = sets; stated = stated; held = no_dual }

@@ -1,4 +1,4 @@
--- What duals of kept cuts are made in, and which they are.
+-- The duals of stored cuts, and the workspace that makes them.
 use Rattle.std.specs.Prelude.{◌≡◌, ℕ, ◌+◌, ◌*◌, List, [], slice_index_or}
 use Rattle.hub_spec.specs.Problem.{Problem}
 use Rattle.hub_spec.specs.Cuts.{Prices, Cut}
@@ -17,7 +17,7 @@ no_dual = record { a = 0; u = [] }
 abbrev pub stated_dual : Cut → ℕ → Prices
 stated_dual cut t = slice_index_or cut.duals t no_dual
 
--- the dual of the commodity in a kept cut
+-- the dual of the commodity in a stored cut
 abbrev pub kept_dual : Problem → Kept → ℕ × ℕ → Prices
 kept_dual p (by_values rows) c = commodity_dual p rows c
 kept_dual p (by_set hubs order) c = minimal_dual p hubs order c
@@ -39,17 +39,17 @@ pub record HasPricesFrom (p : Problem) (w : ValueRows) (i : ℕ) (s : RoomState)
   pub rows : AreRowsFrom w i s.rows
   pub prices : ArePricesFrom p w i s.prices p.size
 
--- ---- duals of any kept cut
+-- ---- duals of any stored cut
 
--- room for duals by values, and for those of a hub set, the dual that was made last of a cut that is kept with its duals, and
--- the dual that is held beside the one that was made last
+-- Workspaces for duals by values and for those of a hub set. `stated` is the dual that was made last of a cut stored
+-- with its duals. `held` is a dual that is held beside the one made last.
 pub record LenderState : Type 0 where
   pub values : RoomState
   pub sets : ScratchParts
   pub stated : Prices
   pub held : Prices
 
--- the lender is for this problem
+-- the workspace is for this problem
 abbrev pub IsLenderFor : Problem → LenderState → Type 0
 IsLenderFor p s = s.values.problem ≡ p
 
@@ -60,7 +60,7 @@ HasLegsOf p (by_set hubs order) s = IsReadyFor p hubs order s.sets
 HasLegsOf p (cored x) s = Unit {0}
 HasLegsOf p (given cut) s = Unit {0}
 
--- the lender is for the problem, and ready for the cut
+-- the workspace is for the problem, and ready for the cut
 pub record IsReady (p : Problem) (kept : Kept) (s : LenderState) : Type 0 where
   pub lender : IsLenderFor p s
   pub legs : HasLegsOf p kept s
@@ -72,7 +72,7 @@ HasRowOf p (by_set hubs order) i s = HasDualsFrom p hubs order i s.sets
 HasRowOf p (cored x) i s = Unit {0}
 HasRowOf p (given cut) i s = Unit {0}
 
--- the lender is for the problem, and ready for the duals of the cut from i
+-- the workspace is for the problem, and ready for the duals of the cut from i
 pub record HasDuals (p : Problem) (kept : Kept) (i : ℕ) (s : LenderState) : Type 0 where
   pub lender : IsLenderFor p s
   pub row : HasRowOf p kept i s

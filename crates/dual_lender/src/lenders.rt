@@ -26,7 +26,7 @@ use std::marker::Model;
 pub struct DualLender<'a> {
     values: ValueRoom<'a>,
     sets: Scratch,
-    // The dual that was made last of a cut that is kept with its duals.
+    // The dual that was made last of a cut that is stored with its duals.
     stated: HeldDual,
     held: HeldDual,
 }
@@ -138,8 +138,8 @@ impl<'a> DualLender<'a> {
     }
 }
 
-// The price of the dual that was made last of the cut, and its nodes with their values: by the values, by the hub set, or as
-// it was unpacked.
+// The price of the dual that was made last of the cut, and its nodes with their values: by the values, by the hub
+// set, or as it was unpacked.
 fn last_made<'d>(
     values: &'d ValueRoom,
     sets: &'d Scratch,

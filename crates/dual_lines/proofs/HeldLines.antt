@@ -123,7 +123,7 @@ candidates_listed P u e before placed both says here is = (
     last : All P (u ++ e ∷ []) → P e
     last all = (All-pop P (u ++ e ∷ []) u (Some e) refl all).1
 
--- ---- what is held, as it is lent
+-- ---- what is held, as it is borrowed
 
 pub places_lent : (p : Problem) (places lent : List ℕ) (count : ℕ) → ArePlaces p places → lent ≡ places → count ≡ length p.candidates
     → IsPlaceOf count (candidate_at p) lent

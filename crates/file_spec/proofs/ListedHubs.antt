@@ -11,7 +11,7 @@ pub post_lists : (o : Options) (bytes : List ℕ) (c : Contents) → HasContents
 unfolding file_contents
 post_lists o bytes c has = subst (λ (x : Contents). IsSome x.listed_p) (sym has.is) refl
 
--- so what is asked for is there, where the number of the file is asked for in this layout alone
+-- so the file lists a number of hubs where the options want it, as they may in this layout alone
 pub has_asked : (layout : Layout) (o : Options) (bytes : List ℕ) (c : Contents) → (o.hubs ≡ Some listed_number → layout ≡ australia_post)
     → HasContents layout o bytes c → HasAsked o c
 has_asked layout o bytes c allowed has listed =

@@ -55,7 +55,7 @@ greatest_number m b =
 abbrev pub most_scaled : ℕ
 most_scaled = 4095
 
--- the least number of halvings by which g comes to at most that; it is sought below g, since g halvings are enough
+-- the least number of halvings after which g is at most that; it is sought below g, since g halvings are enough
 unfoldable pub halvings : ℕ → ℕ
 halvings g = position_or_len (λ h. nat_le (halved h g) most_scaled) (range_with_len 0 g)
 

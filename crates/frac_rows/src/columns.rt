@@ -88,8 +88,8 @@ impl Columns {
         first_negative_of(&self.numbers, &self.tops, self.margin, self.variables, row)
     }
 
-    /// Tells that no number of a whole row before those that are kept is too great, if no size of these is above this
-    /// one. Where it is not told, it may be so too.
+    /// Returns whether no number of a whole row before those that are kept is too great, if no size of these is above
+    /// this one. `false` leaves it open.
     pub(crate) fn stays_within(&self, most: u64) -> bool
         ensures { IsTrue result → (row : List ℤ) → All (λ x. unsigned_abs x ≤ most) row
             → is_wide_row (map (dot row) self.now.columns) ≡ false }

@@ -52,8 +52,8 @@ fn sum_of(tops: &[u64]) -> u64
     total
 }
 
-/// Writes for each number of the row about how often some step goes into it, and gives the step, unless one of them, or
-/// a sum of products of them with a column, might not fit 32 bits.
+/// Writes for each number of the row about how often some step goes into it, and returns the step. Returns `None` if
+/// one of them might not fit 32 bits, or a sum of products of them with a column.
 pub(crate) fn roughen(row: &[i64], tops: &[u64], rough: &mut [i32]) -> Option<u64>
     requires long { length tops.now ≤ length row.now }
     requires room { length rough.old ≡ length tops.now }

@@ -9,8 +9,8 @@ use crate::divisors::{Divisor, gcd_128};
 use crate::limits::WIDEST;
 use crate::multipliers::Multipliers;
 
-/// Writes what the row becomes, divided by a number that may divide it, and gives a size that no quotient exceeds,
-/// unless the number does not divide all of the row or a quotient is beyond the limit.
+/// Writes what the row becomes, divided by a number that may divide it. Returns a size that no quotient exceeds.
+/// Returns `None` if the number does not divide all of the row, or a quotient is beyond the limit.
 pub(crate) fn divide_by(
     by: &Divisor,
     turn: Multipliers,
@@ -110,7 +110,7 @@ fn joined(common: Common, z: i128) -> Common
     common_of(gcd_128(z.unsigned_abs(), common.number))
 }
 
-// Tells that the number is a multiple of the common divisor; where it is not told, it may be one.
+// Returns whether the number is a multiple of the common divisor; `false` leaves it open.
 fn is_multiple(common: Common, z: i128) -> bool
     requires { IfSome common.by (λ by. by.number ≡ common.number) }
     ensures { IsTrue result → gcd (unsigned_abs z) common.number ≡ common.number }

@@ -11,13 +11,13 @@ use Rattle.hub_commands.specs.Methods.{Course, cold, warm}
 use Rattle.hub_commands.specs.Searches.{found_from, IsAtMostBegun}
 use Rattle.hub_commands.specs.Solving.{MayGo}
 
--- the problem can be searched so: all candidates together lack no commodity
+-- the problem can be searched on this course: all candidates together are feasible
 pub record IsSearchable (p : Problem) (course : Course) : Type 0 where
   pub problem : IsProblem p
   pub lacks_none : IsHubSet p p.candidates
   pub may_go : MayGo p course
 
--- what is known of what is found, however the search goes
+-- what is known of what is found, on any course
 pub found_searched : (p : Problem) (n : Option ℕ) (course : Course) → IsSearchable p course → findings.IsSearched p n (found_from p n course)
 found_searched p n (cold node_by_node) ok = rule_searched minimal p n (record { problem = ok.problem; lacks_none = ok.lacks_none })
 found_searched p n (cold by_core_cuts) ok = rule_searched core p n (record { problem = ok.problem; lacks_none = ok.lacks_none })

@@ -1,4 +1,4 @@
--- Where all candidates together lack no commodity, and where there is a plan.
+-- When all candidates together are feasible, and when there is a plan.
 use Rattle.std.proofs.Common.{◌≡◌, ℕ, List, All, Contains, Option, Some, None, refl, ap, sym, ◌∙◌}
 use Rattle.std.proofs.lemmas.Option.{none-some}
 use Rattle.std.proofs.lemmas.List.Elements.{All-contains, All-contains_itself, All-weaker}
@@ -17,12 +17,12 @@ all_are_candidates p ok = record {
   are_candidates = All-contains_itself p.candidates;
 }
 
--- what is told of a set that has all candidates
+-- what `lacking` returns for a set of all candidates, it returns for the candidates
 pub told_of_all : (p : Problem) (set : List ℕ) (told : Option (ℕ × ℕ)) → set ≡ p.candidates → told ≡ lacking p set
     → lacking p p.candidates ≡ told
 told_of_all p set told all is = ap (lacking p) (sym all) ∙ sym is
 
--- all candidates are a hub set where they lack no commodity
+-- all candidates are a hub set where they are infeasible for no commodity
 pub network_when : (p : Problem) → IsProblem p → lacking p p.candidates ≡ None → IsHubSet p p.candidates
 network_when p ok none = record { set = all_are_candidates p ok; lacks_none = (tells p p.candidates).none.0 none }
 
@@ -44,12 +44,12 @@ more_hubs p hubs c all has = (
   },
 )
 
--- where there is a plan they lack none
+-- where there is a plan, all candidates together are feasible
 pub plan_serves : (p : Problem) (plan : Plan) → IsPlan p plan → lacking p p.candidates ≡ None
 plan_serves p plan is =
     (tells p p.candidates).none.1 (All-weaker (HasRoute p plan.hubs) (HasRoute p p.candidates)
     (λ c has. more_hubs p plan.hubs c is.hubs.are_candidates has) (commodities p.size) is.hubs.lacks_none)
 
--- and so there is none where they lack one
+-- and so there is none where they are infeasible for a commodity
 pub no_plan_when : (p : Problem) (c : ℕ × ℕ) → lacking p p.candidates ≡ Some c → (plan : Plan) → IsPlan p plan → ⊥
 no_plan_when p c lacks plan is = none-some c (sym (plan_serves p plan is) ∙ lacks)

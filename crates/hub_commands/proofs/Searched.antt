@@ -1,4 +1,4 @@
--- What the code of a search by a rule found is told as the commands ask: by its text, or by five lines.
+-- The text or the five lines state what the code of a search by a rule found.
 use Rattle.std.proofs.Common.{◌≡◌, ℕ, ◌<◌, ◌≤◌, length, Option, Result, Ok, Err, inr, refl, sym, subst, ap, ◌∙◌, arith, nat_eq, cond}
 use Rattle.std.specs.Prelude.{IfOk, IfSome, map}
 use Rattle.std.proofs.lemmas.List.{length-map}
@@ -44,7 +44,7 @@ abbrev pub IsFoundWith : {E : Type 0} → Problem → Result Found E → Grown �
 IsFoundWith p result g =
     IfOk result (IsFound p g) × IfOk result (λ found. (v : ℕ) → proof_of v p found g.tree ≡ certificate_of p v g)
 
--- what a search by the rule returned is told so
+-- what a search by the rule returned is as `IsSearched` says
 pub searched_by : {E : Type 0} (p : Problem) (n : Option ℕ) (course : Course) (result : Result Found E) → IsProblem p → IsHubSet p p.candidates
     → MayGo p course → IsFoundWith p result (found_from p n course) → IfOk result (IsProved p) → (IsRemadeCourse course → IfOk result AreRemade)
     → IfOk result (IsSearched p n course)
@@ -90,7 +90,7 @@ spells_rule p version nodes course found h there =
     subst (SpellsUnmarked (found_text version p found)) (h.certificate version)
     (spells_unmarked version p found (found_from p nodes course).tree h.proved h.finding.lines there)
 
--- what is stated of what is found by core cuts in the third version: the rule's certificate with the marks that are found
+-- with Pareto-optimal cuts, the third version states the rule's certificate with the marks that are found
 marked_stated : (p : Problem) (version : ℕ) (nodes : Option ℕ) (found : Found) (h : IsSearched p nodes (cold by_core_cuts) found) → version ≡ 3
     → stated_by version p found (found_by core p nodes).tree
     ≡ record { proof = certificate_of p version (found_by core p nodes); marks = (found_by core p nodes).state.marks }
@@ -112,7 +112,7 @@ spells_marks p version nodes found h third =
       as_marked = (subst (IsStatedOf p) same holds).marks;
     }
 
--- and as a search that goes so writes it, in its version
+-- and as a search on this course writes it, in its version
 pub spells_found : (p : Problem) (version : ℕ) (nodes : Option ℕ) (course : Course) (found : Found) → IsSearched p nodes course found
     → IsVersionBy p found.cuts.cuts course version
     → SpellsFound p nodes course (found_text version p found) (certificate_of p version (found_from p nodes course))
@@ -156,7 +156,7 @@ may_go_by held p (follow by_rounds) course o version keeps allowed goes = subst 
 may_go_by held p (again older) course o version keeps allowed goes = goes.3
 may_go_by held p (freely gap from) course o version keeps allowed goes = absurd goes
 
--- a made instance has the size that was asked for
+-- a made instance has the requested size
 pub made_size : (m : Making) → m.size ≡ (made_problem m.seed m.size).size
 unfolding made made_contents
 made_size m = refl

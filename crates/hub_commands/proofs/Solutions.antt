@@ -1,4 +1,4 @@
--- What the code found for an instance, as it was asked for, is told by its text.
+-- The text states what the requested search found for an instance.
 use Rattle.std.proofs.Common.{◌≡◌, ℕ, List, Option, inr, sym, subst}
 use Rattle.hub_io.specs.Outside.{Files}
 use Rattle.hub_spec.specs.Problem.{Problem}
@@ -21,7 +21,7 @@ use Rattle.hub_commands.proofs.Searched.{ruled_status}
 use Rattle.hub_commands.proofs.OlderCertificates.{begun_may}
 use Rattle.hub_commands.proofs.Optimized.{free_status}
 
--- what a search that goes so found is what was asked for
+-- what a search on this course found is what was requested
 pub ruled_found : (held : Option Files) (p : Problem) (how : How) (q : Search) (course : Course) (found : Found) → GoesBy held p how course
     → IsSearched p q.nodes course found → IsFoundBy held p how q found
 ruled_found held p (follow rule) q course found goes h = subst (λ (x : Course). IsSearched p q.nodes x found) goes h

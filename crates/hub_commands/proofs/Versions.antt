@@ -30,13 +30,14 @@ first_or_second v asked = elim (cases_lt v 2) [
 either_version : (p : Problem) (cuts : List Kept) (v : ℕ) → IsUnlimited p → All IsRemade cuts → words.IsVersion v → IsVersionFor p cuts v
 either_version p cuts v unlimited own asked = ⊎_elim (λ one. inl (one, unlimited, own)) (λ two. inr two) (first_or_second v asked)
 
--- and any that may be asked for, since limits are said in the second alone
+-- and any that a request may have, since only the second states limits
 pub said_version : (o : Options) (v : ℕ) (p : Problem) (cuts : List Kept) → KeepsLimits o p → All IsRemade cuts → words.IsVersion v
     → SaysLimits o v → IsVersionFor p cuts v
 said_version o v p cuts keeps own asked says =
     by_test (words.is_limited o) (λ limited. inr (says limited)) (λ not. either_version p cuts v (unlimited_when o p keeps not) own asked)
 
--- the version of a search that goes so: by core cuts the third, else one that has a text for each finding with these cuts
+-- the version of a search on this course: the third with Pareto-optimal cuts, else one that has a text for each
+-- finding with these cuts
 abbrev pub IsVersionBy : Problem → List Kept → Course → ℕ → Type 0
 IsVersionBy p cuts (cold by_core_cuts) version = version ≡ 3
 IsVersionBy p cuts course version = IsVersionFor p cuts version

@@ -1,4 +1,4 @@
--- What `check` and `report` come to.
+-- What `check` and `report` answer for the files that they name.
 use Rattle.std.specs.Prelude.{◌≡◌, ℕ, ◌≤◌, List, length, Option, Some, None}
 use Rattle.hub_io.specs.Outside.{Files}
 use Rattle.hub_spec.specs.Problem.{Problem}

@@ -12,8 +12,8 @@ use Rattle.hub_sources.specs.Sources.{alone, WhereTold}
 use Rattle.hub_sources.specs.Named.{IsFileOf}
 use Rattle.hub_commands.specs.Methods.{Method, method_of, warm}
 
--- of the bytes of an older certificate this is said: where its cuts are given to the search, by its text, its size and each cut, else
--- by its text and its size alone
+-- This is said of the bytes of an older certificate. Where its cuts are imported, its text, its size and each cut are
+-- checked. Else only its text and its size are.
 abbrev pub IsSaid : How → Problem → List ℕ → Older → Type 0
 IsSaid (follow rule) p bytes said = IsSized p bytes said
 IsSaid (again older) p bytes said = IsOlder p bytes said
@@ -35,12 +35,13 @@ MayBegin held p how = (older_named how ≡ None) ⊎ ((older : Stated) × HoldsO
 abbrev pub IsNamedBy : Solving → List ℕ → Type 0
 IsNamedBy s name = IsFileOf s.source name ⊎ (older_named s.how ≡ Some name)
 
--- .. and where its hubs are a hub set that is wanted, they cost at least this
+-- .. and where its hubs are a hub set of the wanted number, they cost at least this
 abbrev pub BegunAt : Option Files → Problem → How → ℕ → Type 0
 BegunAt held p how cost =
     (older_named how ≡ None) ⊎ ((older : Stated) × HoldsOlder held p how (serves older) × IsAtMostOf p older.proof.plan.hubs cost)
 
--- the file holds an older certificate that serves, and this is so of the search from its cuts, which is told in the second version
+-- the file holds an older certificate that serves. This holds of the search from its cuts, whose text has the second
+-- version
 pub record FromOlder (held : Option Files) (p : Problem) (how : How) (q : Search) (so : Method → Type 0) : Type 0 where
   pub older : Stated
   pub older_held : HoldsOlder held p how (serves older)

@@ -37,27 +37,28 @@ use Rattle.hub_commands.specs.declared.solving.Solved.TheVariants as solved
 use Rattle.hub_commands.specs.declared.preparing.Reading.TheVariants as reading
 use Rattle.hub_commands.specs.declared.preparing.Prepared.TheVariants as prepared
 
--- how the code has a search go
+-- the course of the code as the specs have it
 abbrev pub course_seen : code.Course → Course
 course_seen (Cold rule) = cold (rule_seen rule)
 course_seen (Warm start) = warm (start_seen start)
 
--- a search of the problem may go so: by rounds any number of hubs will do, and what it begins again with is a start of the problem
+-- the problem can be searched on this course: by rounds no number of hubs is wanted, and a warm start is a start of
+-- the problem
 abbrev pub MayGo : Problem → Course → Type 0
 MayGo p (cold node_by_node) = Unit {0}
 MayGo p (cold by_core_cuts) = Unit {0}
 MayGo p (cold by_rounds) = p.wanted ≡ None
 MayGo p (warm start) = IsStartOf p start
 
--- the cuts of a search that goes so are all made anew: none is given, and none a core cut
+-- a search on this course computes all its cuts itself: none is imported, and none is Pareto-optimal
 abbrev pub IsRemadeCourse : Course → Type 0
 IsRemadeCourse (cold node_by_node) = Unit {0}
 IsRemadeCourse (cold by_core_cuts) = ⊥
 IsRemadeCourse (cold by_rounds) = Unit {0}
 IsRemadeCourse (warm start) = ⊥
 
--- it is what the rule finds that goes so, with so many nodes at most, in each version; all candidates together lack no
--- commodity; where no cuts are given and core cuts are not asked for, each of its cuts is made anew
+-- It is what the rule of the course finds with at most so many nodes, in each version. All candidates together are
+-- feasible. On a course without imported or Pareto-optimal cuts, the duals of each cut can be computed again.
 pub record IsSearched (p : Problem) (nodes : Option ℕ) (course : Course) (found : finding.Found) : Type 0 where
   pub problem : IsProblem p
   pub lacks_none : IsHubSet p p.candidates
@@ -67,9 +68,10 @@ pub record IsSearched (p : Problem) (nodes : Option ℕ) (course : Course) (foun
   pub remade : IsRemadeCourse course → AreRemade found
   pub certificate : (version : ℕ) → proof_of version p found (found_from p nodes course).tree ≡ certificate_of p version (found_from p nodes course)
 
--- it is a proved network of the problem, with least routes, that costs at most what all candidates do, or as many of the least as are
--- wanted, with no more nodes than are allowed and than a whole tree has; its bound is below its cost, and not within the gap, only where two
--- nodes more are not allowed, and fewer than a whole tree has
+-- It is a proved network of the problem, with least routes. It costs at most what all candidates do or, where p hubs
+-- are wanted, the p least. Its tree has at most the allowed nodes, and at most those of a whole tree. The bound may be
+-- below the cost by more than the gap. Then the node limit does not allow two nodes more, and allows fewer than a
+-- whole tree has.
 pub record IsClosed (p : Problem) (nodes : Option ℕ) (gap : ℕ) (found : finding.Found) : Type 0 where
   pub problem : IsProblem p
   pub proved : IsProved p found
@@ -83,7 +85,8 @@ pub record IsClosed (p : Problem) (nodes : Option ℕ) (gap : ℕ) (found : find
   pub spent : found.bound < found.cost → IsSpent nodes (length found.tree.items) ⊎ IsWithinGap gap found.bound found.cost
   pub enough : IsEnoughFor p nodes → IsWithinGap gap found.bound found.cost
 
--- it is what is found for the problem, as it is asked for: by the rule, from the older certificate that is held, or such a network
+-- it is what the requested search finds: by the rule, from the older certificate that is held, or a network by
+-- `optimize`
 abbrev pub IsFoundBy : Option Files → Problem → How → Search → finding.Found → Type 0
 IsFoundBy held p (follow rule) q found = IsSearched p q.nodes (cold rule) found
 IsFoundBy held p (again older) q found =
@@ -96,18 +99,18 @@ pub record IsSolution (held : Option Files) (s : Solving) (p : Problem) (found :
   pub limits : KeepsLimits s.source.options p
   pub found_by : IsFoundBy held p s.how s.search found
 
--- the ending tells in one line why what is said of an older certificate is not that it serves
+-- the ending says in one line why the older certificate does not serve
 abbrev pub TellsWhy : Older → Ending → Type 0
 TellsWhy said ending = (older_line said ≡ Some (verdict_text (verdict_of ending))) × (verdict_status (verdict_of ending) ≡ No)
 
--- it is what is found for the instance of the source, or the commodity that all its candidates together lack, or the ending that tells
--- why the older certificate does not serve
+-- The result of a request to solve: what is found for the instance of the source; or a commodity for which all
+-- candidates together are infeasible; or the ending that says why the older certificate does not serve.
 abbrev pub ComesTo : Option Files → Solving → Solved → Type 0
 ComesTo held s (solved.Found instance found) = IsSolution held s instance found
 ComesTo held s (solved.NoNetwork i j) = LacksNetwork held s.source (i, j)
 ComesTo held s (solved.Refused ending) = (said : Older) × TellsWhy said ending × RefusesOlder held s said
 
--- what is said of an older certificate is this: it serves, or the ending tells in one line why it does not
+-- the reading of an older certificate: it serves, or the ending says in one line why it does not
 abbrev pub IsReadingAs : Older → Reading → Type 0
 IsReadingAs said (reading.Serves certificate) = said ≡ serves certificate
 IsReadingAs said (reading.Refused ending) = TellsWhy said ending
@@ -118,21 +121,20 @@ pub record IsReadingOf (held : Option Files) (p : Problem) (how : How) (read : R
   pub older_held : HoldsOlder held p how said
   pub reads : IsReadingAs said read
 
--- a search that is asked for so follows a rule, and goes so
+-- the request is for a search by a rule, on this course
 abbrev pub GoesBy : Option Files → Problem → How → Course → Type 0
 GoesBy held p (follow rule) course = course ≡ cold rule
 GoesBy held p (again older) course =
     (k : Stated) × HoldsOlder held p (again older) (serves k) × (course ≡ warm (start_of k.proof)) × MayGo p course
 GoesBy held p (freely gap from) course = ⊥
 
--- what a search that follows no rule may begin with: with nothing where no older certificate is named, or with the one that is held
--- and serves
+-- what `optimize` may begin with: nothing where no older certificate is named, or the one that is held and serves
 abbrev pub IsBegun : Option Files → Problem → How → Option Stated → Type 0
 IsBegun held p how None = older_named how ≡ None
 IsBegun held p how (Some older) = HoldsOlder held p how (serves older)
 
--- what is prepared for a search that is asked for so: how it goes by a rule, or that it follows none, up to this gap, and may begin, or
--- the ending that tells why the older certificate does not serve
+-- What is prepared for the request: the course of a search by a rule; or a start of `optimize` up to this gap; or the
+-- ending that says why the older certificate does not serve.
 abbrev pub IsPrepared : Option Files → Problem → How → Prepared → Type 0
 IsPrepared held p how (prepared.Ruled course) = GoesBy held p how (course_seen course)
 IsPrepared held p how (prepared.Free gap older) = (from : Option (List ℕ)) × (how ≡ freely gap from) × IsBegun held p how older

@@ -22,16 +22,16 @@ found_status k = if nat_eq k.bound k.cost then Done else Stopped
 unfoldable pub rule_status : Problem → Method → Status
 rule_status p m = found_status (rule_certificate p m)
 
--- of `solve`: 8 where all candidates together lack a commodity
+-- of `solve`: 8 where all candidates together are infeasible for a commodity
 unfoldable pub solve_status : Problem → Method → Status
 solve_status p m = if is_some (lacking p p.candidates) then Lacking else rule_status p m
 
--- of `resolve`, where all candidates together lack no commodity: 2 where the older certificate does not serve
+-- of `resolve`, where all candidates together are feasible: 2 where the older certificate does not serve
 unfoldable pub older_status : Problem → Search → Older → Status
 older_status p search (serves older) = rule_status p (method_of search (warm (start_of older.proof)))
 older_status p search said = No
 
--- the five lines that tell of a certificate: its nodes, cost, bound, hubs, and the nodes of its tree
+-- the five lines that describe a certificate: its nodes, cost, bound, hubs, and the nodes of its tree
 abbrev pub demo_text : Proof → List ℕ
 demo_text k = lines.demo_text k.size k.cost k.bound k.plan.hubs (line_count k.tree)
 

@@ -5,13 +5,13 @@ use Rattle.hub_words.specs.Requests.{check, report}
 use Rattle.hub_commands.specs.declared.status.Status.{Status}
 use Rattle.hub_commands.specs.declared.status.Status.TheVariants.{Done, Stopped, No, Lacking, Usage, Instance, Memory, Read, Write}
 
--- of a verdict, where `check` tells it
+-- of a verdict of `check`
 abbrev pub verdict_status : Verdict → Status
 verdict_status (optimal cost) = Done
 verdict_status (bounds bound cost) = Stopped
 verdict_status verdict = No
 
--- of a verdict, where `report` tells of the network: it is told where the bytes certify
+-- of a verdict of `report`, which reports the network only where the bytes certify
 abbrev pub report_status : Verdict → Status
 report_status (optimal cost) = Done
 report_status (bounds bound cost) = Done

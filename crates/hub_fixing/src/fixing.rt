@@ -13,7 +13,7 @@ use std::alloc::{AllocError, Global};
 const ROOM: usize = MOST_NODES as usize;
 
 /// Variable fixing by reduced-cost bounds: the free candidates of the branch that these weights decide, ascending, each
-/// with the side that stays.
+/// with the side to which it is fixed.
 ///
 /// `target` is the cutoff, in 10^-12. The branch itself is not fathomed at it. Otherwise both children of each free
 /// candidate would be.

@@ -28,11 +28,11 @@ module _ (files : List MemFile) (name : List ℕ) where
   pub first_named : (found : Option ℕ) → found ≡ position (has_name name) files → Finds files name found
   first_named found e = let p = has_name name in subst (Finds files name) (sym e) (named_by (position_or_len p files) (find_at p files) (nat_lt (position_or_len p files) (length files)) refl)
 
--- nothing stands past the end
+-- nothing follows the end
 drop-min : (bytes : List ℕ) (byte : ℕ) → drop byte bytes ≡ drop (min byte (length bytes)) bytes
 drop-min bytes byte = grind (arith, common_steps, drop_all)
 
--- the front that was copied, and what stands behind it
+-- the prefix that was copied, and what follows it
 pub copied : (bytes into front : List ℕ) (byte start count : ℕ) → start ≡ min byte (length bytes) → count ≡ min (length into) (length bytes - start)
     → front ≡ take ((start + count) - start) (drop start bytes) → drop byte bytes ≡ take count (front ++ drop count into) ++ drop (start + count) bytes
 copied bytes into front byte start count s c f =

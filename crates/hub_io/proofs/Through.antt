@@ -4,7 +4,7 @@ use Rattle.std.specs.Io.KnownBytes.{Appends}
 use Rattle.std.proofs.KnownBytes.{Appends-trans, Appends-nil}
 use Rattle.hub_io.specs.Outside.{Puts, PutsThrough, AppendsFront}
 
--- a front of a text is one of a longer text
+-- a prefix of a text is one of a longer text
 front_of_more : (old new : Option (List ℕ)) (a b : List ℕ) → AppendsFront old new a → AppendsFront old new (a ++ b)
 front_of_more old new a b f = (f.0, f.1 ++ b, sym (append_assoc f.0 f.1 b) ∙ ap (λ l. l ++ b) f.2, f.3)
 

@@ -18,7 +18,7 @@ abbrev pub left_bytes : List MemFile → Option Place → Option (List ℕ)
 left_bytes files None = None
 left_bytes files (Some place) = option_map (λ f. drop place.byte f.bytes.items) (slice_get files place.file)
 
--- the file of that number is the first of that name and stands at its first byte, or no file has the name
+-- the file of that number is the first of that name and is at its first byte, or no file has the name
 abbrev pub Finds : List MemFile → List ℕ → Option ℕ → Type 0
 Finds files name None = held_bytes files name ≡ None
 Finds files name (Some file) = Starts (Some (held_bytes files)) name (left_bytes files (Some (record { file = file; byte = 0 })))
@@ -28,7 +28,8 @@ abbrev pub most_given : Option ℕ → ℕ → ℕ
 most_given None asked = asked
 most_given (Some most) asked = min (max most 1) asked
 
--- Bytes were read from what was left, as `Shelf` says it, or nothing was begun. `left_at` is what is left from a place on.
+-- Bytes were read from what was left, as `Shelf` says it, or nothing was begun. `left_at` is what is left from a place
+-- on.
 abbrev pub ReadsOn : Option (List ℕ) → (Place → Option (List ℕ)) → Option (Place × ℕ) → List ℕ → Type 0
 ReadsOn left left_at None into = left ≡ None
 ReadsOn left left_at (Some r) into = IsSome left × IsSome (left_at r.0) × Consumes left (left_at r.0) (take r.1 into) × (r.1 ≡ 0 → 0 < length into → IsAtEnd (left_at r.0))

@@ -6,7 +6,7 @@ use Rattle.std.specs.Io.KnownBytes.{Appends}
 abbrev pub Files : Type 0
 Files = List ℕ → Option (List ℕ)
 
--- a count of faults has risen, or stands at its last value
+-- a count of faults has risen, or is at its last value
 abbrev pub Rose : ℕ → ℕ → Type 0
 Rose before now = min (before + 1) (2 ^ 64 - 1) ≤ now
 
@@ -30,12 +30,12 @@ abbrev pub HoldsMore : Option Files → List ℕ → ℕ → Type 0
 HoldsMore None name limit = ⊤
 HoldsMore (Some files) name limit = (bytes : List ℕ) × (files name ≡ Some bytes) × (limit < length bytes)
 
--- more bytes than that are held under the name, and what is left of them stands behind the limit and one byte
+-- more bytes than that are held under the name, and what is left of them is behind the limit and one byte
 abbrev pub LeavesRest : Option Files → Option (List ℕ) → List ℕ → ℕ → Type 0
 LeavesRest None left name limit = ⊤
 LeavesRest (Some files) left name limit = (bytes : List ℕ) × (files name ≡ Some bytes) × (limit < length bytes) × (left ≡ Some (drop (limit + 1) bytes))
 
--- it is told that a file of that name is held
+-- it is known that a file of that name is held
 abbrev pub TellsOf : Option Files → List ℕ → Type 0
 TellsOf None name = ⊥
 TellsOf (Some files) name = IsSome (files name)
@@ -50,22 +50,23 @@ pub record BeginsOnly (may : List ℕ → Type 0) (before now : Option (List (Li
   pub more : now ≡ option_map (λ begun. begun ++ names) before
   pub each : All may names
 
--- a front of the text was appended
+-- a prefix of the text was appended
 abbrev pub AppendsFront : Option (List ℕ) → Option (List ℕ) → List ℕ → Type 0
 AppendsFront old new text = (front : List ℕ) × (rest : List ℕ) × (front ++ rest ≡ text) × Appends old new front
 
--- A text was put on a sink: all of it, or on a failure a front of it.
+-- A text was put on a sink: all of it, or on a failure a prefix of it.
 pub record Puts {K E : Type 0} (taken : K → Option (List ℕ)) (faults : K → ℕ) (old new : K) (result : Result (Unit {0}) E) (text : List ℕ) : Type 0 where
   pub whole : OnOk result (Appends (taken old) (taken new) text)
   pub front : OnErr result (AppendsFront (taken old) (taken new) text)
   pub later : faults old ≤ faults new
   pub failed : OnErr result (Rose (faults old) (faults new))
 
--- a front of the text was appended, and this is the rest of it
+-- a prefix of the text was appended, and this is the rest of it
 abbrev pub AppendsBut : Option (List ℕ) → Option (List ℕ) → List ℕ → List ℕ → Type 0
 AppendsBut old new text rest = (front : List ℕ) × (front ++ rest ≡ text) × Appends old new front
 
--- A text was put through a buffer, behind the bytes that waited there: the sink took a front of all that and the rest waits, or on a failure it took a front and no more.
+-- A text was put through a buffer, behind the bytes that waited there. The sink took a prefix of all that, and the
+-- rest waits. On a failure it took a prefix and no more.
 pub record PutsThrough {K E : Type 0} (taken : K → Option (List ℕ)) (faults : K → ℕ) (old new : K) (waiting rest : List ℕ) (result : Result (Unit {0}) E) (text : List ℕ) : Type 0 where
   pub whole : OnOk result (AppendsBut (taken old) (taken new) (waiting ++ text) rest)
   pub front : OnErr result (AppendsFront (taken old) (taken new) (waiting ++ text))

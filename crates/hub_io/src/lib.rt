@@ -6,7 +6,7 @@
 //! - [`read_whole`] reads a file up to a limit.
 //! - [`Buffer`] joins many small puts into few large ones.
 //! - [`Gate`] is where a worker passes before each block of its work. [`OpenGate`] lets all pass.
-//! - [`MemShelf`] with its [`MemFile`]s, and [`MemSink`], are in memory, and fail where they are told to:
+//! - [`MemShelf`] with its [`MemFile`]s, and [`MemSink`], are in memory, and fail on demand:
 //!   at the calls of a list, and at each [`Partial`] put. A `MemShelf` gives short reads of a list.
 #![tactic(auto)]
 

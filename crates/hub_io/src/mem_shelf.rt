@@ -1,4 +1,4 @@
-//! A shelf in memory, which fails where it is told to.
+//! A shelf in memory, which fails at chosen calls.
 ghost use Rattle.std.specs.Prelude.{◌≡◌, ◌+◌, ◌-◌, ◌^◌, ◌<◌, ◌≤◌, ◌↔◌, ◌++◌, min, Contains, IsTrue, ℕ, Option, None, Some, [], length, take, drop, All, slice_get, string_bytes, false, IfOk, IfSome};
 ghost use Rattle.hub_io.specs.MemShelf.{Finds, held_bytes, left_bytes, most_given, ReadsOn};
 
@@ -199,7 +199,7 @@ fn read_on(files: &[MemFile], begun: Option<Place>, into: &mut [u8]) -> Option<(
     Some((behind, count))
 }
 
-// Copies the front of what stands from a byte on, and answers where it ends and how much it is.
+// Copies the bytes from a position on, as many as fit. Returns the position behind them and their number.
 fn copy_from(bytes: &[u8], byte: usize, into: &mut [u8]) -> (usize, usize)
     ensures bound { result.1 ≤ length into.new }
     ensures bytes { drop byte bytes.now ≡ take result.1 into.new ++ drop result.0 bytes.now }

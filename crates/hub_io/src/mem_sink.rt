@@ -1,4 +1,4 @@
-//! A sink in memory, which fails where it is told to and past its room.
+//! A sink in memory, which fails at chosen calls and past its room.
 ghost use Rattle.std.specs.Prelude.{◌≡◌, ◌+◌, ◌-◌, ◌^◌, ◌<◌, ◌≤◌, ◌++◌, min, ℕ, [], None, Some, All, length, take, IfOk, IsOk, vec_capacity};
 ghost use Rattle.hub_io.specs.Outside.{Puts};
 ghost use Rattle.hub_io.specs.Partial.{partial_at};
@@ -88,7 +88,7 @@ impl MemSink {
         taken_at(&self.failing, call)
     }
 
-    // Takes the front of the piece, as much as fits and at most so many bytes, and answers how much.
+    // Takes a prefix of the piece, as much as fits and at most `most` bytes. Returns its length.
     fn take_front(&mut self, piece: &[u8], most: usize) -> usize
         ensures count { result ≡ min (min (length piece.now) most) (self.old.room - length self.old.taken.items) }
         ensures taken { self.new.taken.items ≡ self.old.taken.items ++ take result piece.now }

@@ -5,7 +5,7 @@ ghost use Rattle.hub_io.specs.Outside.{Holds, HoldsMore, LeavesRest, Rose, Tells
 use crate::Shelf;
 use std::alloc::Global;
 
-// How many bytes are asked for at once.
+// The most bytes that one call reads.
 const PIECE: usize = 4096;
 
 /// Why a file was not read whole.

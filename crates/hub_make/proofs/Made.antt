@@ -36,7 +36,7 @@ module _ (seed size : ℕ) (one : 1 ≤ size) (few : size ≤ 200) where
       (subst (λ (options : Options). GivesInstance australia_post options bytes None p) same given))
       (all_read seed size one few).gives
 
-  -- and no fault is told
+  -- and no fault is found
   pub never_refused : (o : Options) (bytes : List ℕ) (refusal : Refusal) (f : InstanceFault) → o ≡ tail_alone → bytes ≡ made_text seed size
       → refusal ≡ of_fault f → IsRefusedAlone o bytes refusal → ⊥
   never_refused o bytes refusal f same e is refused =

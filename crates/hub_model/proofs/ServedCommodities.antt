@@ -1,4 +1,4 @@
--- The first commodity that hubs lack, in a loop over all commodities by i and j.
+-- The first commodity for which hubs are infeasible, in a loop over all commodities by i and j.
 use Rattle.std.proofs.Common.{◌≡◌, ℕ, suc, ◌+◌, ◌*◌, ◌<◌, ◌≤◌, Bool, true, false, true≢false, not, Option, List, [], ◌∷◌, ◌++◌, length, take, drop, None, Some, refl, sym, ap, ◌∙◌, arith}
 use Rattle.std.specs.Option.{is_some}
 use Rattle.std.proofs.lemmas.List.{take-append-drop}

@@ -139,8 +139,8 @@ impl LocalSearch {
         most
     }
 
-    /// Sets the cap of each commodity's price to the greater of its lengths without the first and without the last hub
-    /// of its route over the set that was found last, but at most to the greatest price.
+    /// Sets the cap of each commodity's price, at most the greatest price. The cap is the greater of two lengths over
+    /// the set that was found last: without the first hub of the commodity's route over it, and without the last.
     pub fn set_caps(&self, lengths: &Lengths, caps: &mut [u32]) {
         for i in 0..lengths.size {
             for (j, cap) in row_mut(caps, i, lengths.size).iter_mut().enumerate() {

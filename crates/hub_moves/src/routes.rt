@@ -49,13 +49,13 @@ struct Hop {
     length: u32,
 }
 
-/// A hop to fill vectors with.
+/// A route end to fill vectors with.
 const NO_HOP: Hop = Hop {
     last: u32::MAX,
     length: FAR,
 };
 
-/// The three shortest hops with different last hubs.
+/// The three shortest route ends with different last hubs.
 #[derive(Clone, Copy)]
 struct Hops {
     first: Hop,
@@ -63,7 +63,7 @@ struct Hops {
     third: Hop,
 }
 
-/// Hops to fill vectors with.
+/// Route ends to fill vectors with.
 const NO_HOPS: Hops = Hops {
     first: NO_HOP,
     second: NO_HOP,
@@ -71,7 +71,7 @@ const NO_HOPS: Hops = Hops {
 };
 
 impl Hops {
-    /// The hops with one more candidate.
+    /// The route ends with one more candidate.
     fn with(self, hop: Hop) -> Hops {
         let mut hops = self;
         if hop.length < hops.third.length {
@@ -86,7 +86,7 @@ impl Hops {
         hops
     }
 
-    /// The length of the shortest hop that avoids both places.
+    /// The length of the shortest route end that avoids both places.
     fn without(&self, some: u32, other: u32) -> u32 {
         if self.first.last != some && self.first.last != other {
             self.first.length
@@ -98,7 +98,7 @@ impl Hops {
     }
 }
 
-/// The legs over the hubs of a set, by origin and by destination, and the shortest hops from each hub.
+/// The legs over the hubs of a set, by origin and by destination, and the shortest route ends from each hub.
 #[derive(Drop)]
 pub struct SetRoutes {
     hubs: Vec<usize>,
@@ -149,7 +149,7 @@ impl SetRoutes {
         }
     }
 
-    /// Computes the shortest hops to the destination.
+    /// Computes the shortest route ends to the destination.
     fn take_hops(&mut self, tables: &Tables, j: usize) {
         let deliver = tables.legs.deliver.row(j);
         for (hops, k) in row_mut(&mut self.hops, j, self.hubs.len())

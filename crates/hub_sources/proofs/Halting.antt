@@ -19,7 +19,7 @@ use Rattle.hub_sources.specs.Shelves.{FailsFor, StaysShelf}
 use Rattle.hub_sources.specs.Building.{IsBuilt, KeepsLimits}
 use Rattle.hub_sources.specs.Halts.{Halts, IsTooLong, IsOfToken, IsOfWhole, IsOfCosts, IsOfCostTokens, HasCostsFault, LacksCosts, IsOfSource}
 
--- ---- what is told of the files
+-- ---- what is known of the files
 
 pub told_weaker : (held : Option Files) (P Q : Files → Type 0) → ((files : Files) → held ≡ Some files → P files → Q files) → WhereTold held P → WhereTold held Q
 told_weaker None P Q to h = tt
@@ -86,7 +86,7 @@ pub token_halts : (held : Option Files) (s : Source) (unread : Type 0) (bytes : 
 token_halts held s unread bytes h short is k =
     weaker (IsOfToken s.layout s.options bytes) (IsOfSource held s) ⊥ unread h (token_told held s bytes short is) (λ u. absurd u) k
 
--- ---- what the instance file has, where it is told
+-- ---- what the instance file has, where its contents are known
 
 pub record HasRead (held : Option Files) (s : Source) (bytes : List ℕ) (contents : Contents) : Type 0 where
   pub short : length bytes ≤ file_limit

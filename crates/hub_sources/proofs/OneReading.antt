@@ -124,7 +124,7 @@ held_again before now s t p h same =
       gives = subst Q (sym same.options) (subst P (sym same.layout) h.gives);
     }
 
--- ---- one fault, told of one file
+-- ---- one fault, attributed to one file
 
 -- what the instance file has by itself and what it gives exclude each other
 alone_or_contents : (files : Files) (s : Source) (bytes : List ℕ) (fault : Fault) (contents : Contents) → files s.file ≡ Some bytes

@@ -8,7 +8,7 @@ use Rattle.file_spec.specs.Files.{tail_of, file_contents, HasContents}
 use Rattle.hub_model.specs.Building.{IsOneSource}
 use Rattle.hub_words.specs.Requests.{Source, AreSources}
 
--- a tail lists costs only where it is asked for
+-- a tail lists costs only where the options ask for them
 tail_some : (tail : Tail) (n : ℕ) (tokens : List Token) (first : ℕ) → IsSome (tail_of tail n tokens first) → tail ≡ tail_costs
 tail_some tail_ignored n tokens first some = cc
 tail_some tail_costs n tokens first some = refl

@@ -1,4 +1,4 @@
--- Instances as the call that builds them is asked for them, and answers.
+-- What the call that builds an instance takes and returns.
 use Rattle.std.specs.Prelude.{◌≡◌, ℕ, ℤ, List, Option, None, IfSome}
 use Rattle.std.specs.declared.vec.Vec.{Vec}
 use Rattle.std.specs.declared.alloc.Global.{Global}
@@ -14,7 +14,7 @@ pub record AreBuildable (o : Options) (contents : Contents) (costs : Option (Vec
   pub one_source : IsOneSource (costs_of costs) contents.costs o.fixed
   pub listed : HasAsked o contents
 
--- routes are limited as the options say, and no number of hubs is wanted where none is asked for
+-- routes are limited as the options say, and no number of hubs is wanted where the options have none
 pub record KeepsLimits (o : Options) (p : Problem) : Type 0 where
   pub longest : p.longest ≡ o.longest
   pub wanted : o.hubs ≡ None → p.wanted ≡ None

@@ -3,7 +3,7 @@ use Rattle.std.specs.Prelude.{◌≡◌, ℕ, ◌≤◌, Option}
 use Rattle.hub_io.specs.Outside.{Files, Rose}
 use Rattle.hub_sources.specs.Sources.{WhereTold}
 
--- the shelf failed in this call; and a sound one that tells lacks what is said of its files
+-- the shelf failed in this call; if it is sound and its files are known, `lacks` holds of them
 pub record FailsFor {S : Type 0} (held : S → Option Files) (faults : S → ℕ) (sound : S → Type 0) (old new : S) (lacks : Files → Type 0) : Type 0 where
   pub rose : Rose (faults old) (faults new)
   pub lacking : sound old → WhereTold (held old) lacks

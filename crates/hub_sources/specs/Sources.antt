@@ -9,7 +9,7 @@ use Rattle.file_spec.specs.Files.{HasContents}
 use Rattle.file_spec.specs.Instances.{build_fault, GivesInstance, GivesFileFault, GivesCosts, GivesCostFault}
 use Rattle.hub_words.specs.Requests.{Source, again}
 
--- a fact about the files, where they are told
+-- a fact about the files, where their contents are known
 abbrev pub WhereTold : Option Files → (Files → Type 0) → Type 0
 WhereTold None fact = Unit {0}
 WhereTold (Some files) fact = fact files
@@ -35,7 +35,7 @@ pub record HoldsContents (files : Files) (s : Source) (contents : Contents) : Ty
   pub not_too_long : length bytes ≤ file_limit
   pub has : HasContents s.layout s.options bytes contents
 
--- which of its files an instance's fault is told of
+-- the file to which a fault of an instance is attributed
 pub data Blame : Type 0 where
   on_instance on_costs : Blame
 
@@ -64,7 +64,7 @@ abbrev pub HasBlame : Files → Source → Blame → Fault → Type 0
 HasBlame files s on_instance fault = HoldsFault files s fault
 HasBlame files s on_costs fault = HoldsCostFault files s fault
 
--- a file of the instance is not held, when its turn comes
+-- a file of the instance is not held, when it is to be read
 pub data LacksSource (files : Files) (s : Source) : Type 0 where
   -- the instance file
   no_file : files s.file ≡ None → LacksSource files s

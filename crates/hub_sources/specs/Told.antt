@@ -1,4 +1,4 @@
--- What the files hold, where the shelf tells of them.
+-- What the files hold, where their contents are known.
 use Rattle.std.specs.Prelude.{◌≡◌, ℕ, List, Option, None}
 use Rattle.hub_io.specs.Outside.{Files}
 use Rattle.hub_spec.specs.Problem.{Problem}

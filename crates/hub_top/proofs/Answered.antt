@@ -129,7 +129,7 @@ solve_status_is files x rule p status text e instance h =
     ∙ ap (λ q. solve_status q m) (one_instance files x.source k.problem p k.instance instance)))
     (λ k. absurd (names_none x rule k.refuses.older_held.older e k.refuses.older_held.named)) status h
 
--- and so it is where all candidates together lack a commodity
+-- and so it is where all candidates together are infeasible for a commodity
 pub lacking_status : (files : Files) (x : Solving) (m : Method) (p : Problem) (commodity : ℕ × ℕ) → HoldsInstance files x.source p
     → LacksNetwork (Some files) x.source commodity → Lacking ≡ solve_status p m
 unfolding solve_status
@@ -137,7 +137,7 @@ lacking_status files x m p commodity instance h =
     sym (ap (λ (o : Option (ℕ × ℕ)). cond (is_some o) Lacking (rule_status h.problem m)) h.lacks)
     ∙ ap (λ q. solve_status q m) (one_instance files x.source h.problem p h.instance instance)
 
--- an instance whose candidates together lack no commodity is not told to lack a network
+-- an instance for which all candidates together are feasible is not reported as infeasible
 pub lacks_none : (files : Files) (s : Source) (p : Problem) (commodity : ℕ × ℕ) → HoldsInstance files s p
     → lacking p p.candidates ≡ None → LacksNetwork (Some files) s commodity → ⊥
 lacks_none files s p commodity instance none h =
@@ -210,7 +210,7 @@ refused_status_is files x older bytes line said p status text named instance hel
     absurd (no_line_where_begun files p x.how said line may there tells)))
     (λ k. refl) status h
 
--- ---- where all candidates together lack a commodity
+-- ---- where all candidates together are infeasible for a commodity
 
 solved_serves : (held : Option Files) (p : Problem) (how : How) (q : Search) (text : List ℕ) → SolvesBy held p how q text
     → lacking p p.candidates ≡ None
@@ -224,7 +224,7 @@ stopped_serves held p (follow rule) q text h = plan_serves p h.certificate.plan 
 stopped_serves held p (again older) q text h = plan_serves p h.is.certificate.plan h.is.finds.holds.plan
 stopped_serves held p (freely gap from) q text h = plan_serves p h.0.certificate.plan h.0.finds.holds.plan
 
--- one instance does not both lack a commodity and lack none
+-- all candidates of one instance are not both infeasible for a commodity and feasible
 not_both_lack : (files : Files) (x : Solving) (p q : Problem) (commodity : ℕ × ℕ) → HoldsInstance files x.source p → HoldsInstance files x.source q
     → lacking p p.candidates ≡ Some commodity → lacking q q.candidates ≡ None → ⊥
 not_both_lack files x p q commodity instance other lacks none =

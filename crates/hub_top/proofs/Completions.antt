@@ -46,7 +46,7 @@ instance_to_solve (demo m search) s e = cc
 asked_request : (request other : Request) → Some request ≡ Some other → request ≡ other
 asked_request request other e = cc
 
--- no command is asked for
+-- the words are no command
 ends_usage : (held : Option Files) (fails : Request → Type 0) (e : Outcome) → MayComeTo None held fails e → EndsWith Usage (status_of e)
 ends_usage held fails (answered status text) may = (let is = may.1 in cc)
 ends_usage held fails usage may = inl refl
@@ -89,12 +89,12 @@ blameless_of files request s p named h blame fault t also has =
 blameless_without : (held : Option Files) (request : Request) → instance request ≡ None → IsBlameless held request
 blameless_without held request none blame fault t also has = cc
 
--- a run may end so that is asked to solve by the rule and tells of a lacked commodity
+-- a run that reports an infeasible commodity of the instance to solve may end with a wanted status
 abbrev MayLack : Option Files → Request → (Status → Type 0) → Type 0
 MayLack held request wanted =
     (s : Source) (commodity : ℕ × ℕ) → to_solve request ≡ Some s → LacksNetwork held s commodity → wanted Lacking
 
--- no run tells so of an instance whose candidates together lack none
+-- no run reports this of an instance for which all candidates together are feasible
 no_lack : (files : Files) (x : Solving) (p : Problem) (wanted : Status → Type 0) → HoldsInstance files x.source p → lacking p p.candidates ≡ None
     → MayLack (Some files) (solve x) wanted
 no_lack files x p wanted h none t commodity same k =
@@ -132,7 +132,7 @@ module _ (asked : Option Request) (held : Option Files) (fails : Request → Typ
       let P : Option Request → Type 0 = λ x. MayComeTo x held fails e in
       status_by status e wanted (written calm) (ends_by request held wanted blameless lacks answers fails (no_fault calm) e (subst P is may))
 
-  -- and where the files are told, and give the instance
+  -- and where the files are known, and give the instance
   told_ends : (files : Files) (request : Request) (s : Source) (p : Problem) (wanted : Status → Type 0) → held ≡ Some files → asked ≡ Some request
       → instance request ≡ Some s → HoldsInstance files s p → MayLack (Some files) request wanted
       → ((other : Status) (text : List ℕ) → Answers request other (Some files) text → wanted other) → quiet → EndsAs wanted status

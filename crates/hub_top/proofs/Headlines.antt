@@ -22,7 +22,7 @@ use Rattle.hub_top.specs.Completeness.{Completeness}
 use Rattle.hub_sources.proofs.OneReading.{held_again}
 use Rattle.hub_top.proofs.OneTexts.{solving_why, stopping_why}
 
--- the answer to the request that was asked for
+-- the answer to the request
 answers_to : (asked : Option Request) (held : Option Files) (old new : Option (List ℕ)) (h : Answered asked held old new Done)
     → (files : Files) (request : Request) → held ≡ Some files → asked ≡ Some request → Answers request Done (Some files) h.text
 answers_to asked held old new h files request told is =

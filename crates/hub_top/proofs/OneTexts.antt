@@ -29,7 +29,8 @@ only_verdict p bytes v w why also =
 
 -- ---- what a text states
 
--- what the text of a search that goes so states of the proof: by core cuts with the marks of what is found, else with none
+-- what the text of a search on this course states of the proof: with Pareto-optimal cuts the marks of what is found,
+-- else none
 abbrev pub stated_so : Problem → Option ℕ → Course → Proof → Stated
 stated_so p nodes (cold by_core_cuts) k = record { proof = k; marks = (found_by core p nodes).state.marks }
 stated_so p nodes course k = unmarked k
@@ -77,7 +78,7 @@ pub optimized_verdict : (p : Problem) (m : Method) (text : List ℕ) (h : Optimi
 optimized_verdict p m text h short =
     let k = h.certificate in closed_verdict p text k (unmarked k) (unmarked_text p text k h.finds.holds h.finds.told) h.no_gap short
 
--- so of a text that solves an instance, however it is asked for
+-- so of a text that solves an instance, by any kind of search
 pub solving_why : (held : Option Files) (p : Problem) (how : How) (q : Search) (text : List ℕ) → SolvesBy held p how q text
     → length text ≤ certificate_limit → (cost : ℕ) × Why p text (optimal cost)
 solving_why held p (follow rule) q text h short = (h.certificate.cost, (solved_verdict p (method_of q (cold rule)) text h short).0)
@@ -103,7 +104,7 @@ pub bounded_verdict : (p : Problem) (m : Method) (gap : ℕ) (text : List ℕ) (
 bounded_verdict p m gap text h short =
     let k = h.certificate in gap_verdict p text k (unmarked k) (unmarked_text p text k h.finds.holds h.finds.told) h.gap short
 
--- so of a text that stops, however it is asked for
+-- so of a text of a search that stopped, of any kind
 pub stopping_why : (held : Option Files) (p : Problem) (how : How) (q : Search) (text : List ℕ) → StopsBy held p how q text
     → length text ≤ certificate_limit → (bound : ℕ) × (cost : ℕ) × Why p text (bounds bound cost)
 stopping_why held p (follow rule) q text h short =

@@ -38,7 +38,7 @@ module _ {S O E : Type 0} (held : S → Option Files) (faults : S → ℕ) (soun
         headline = headline _ _ _ _ _ _ _ _ means complete;
       }
 
-  -- a run that came to what it settled on, or to want of memory
+  -- a run that had the outcome it settled on, or ran out of memory
   pub ran : (settled came : Outcome) → MayComeTo asked (held old) (ShelfFails held faults sound old new) settled
       → (came ≡ settled) ⊎ (came ≡ memory)
       → Written out_taken out_faults err_taken err_faults out_old out_new err_old err_new status came → Told

@@ -1,4 +1,4 @@
--- What a search found is told as the command says.
+-- The answer of a command states what its search found.
 use Rattle.std.proofs.Common.{◌≡◌, ℕ, length, List, Option, ap, ◌∙◌}
 use Rattle.hub_io.specs.Outside.{Files}
 use Rattle.hub_spec.specs.Problem.{Problem}

@@ -13,7 +13,7 @@ use Rattle.hub_top.specs.Outcomes.{Outcome, status_of, out_text, err_text, IsTol
 nothing_put : {K : Type 0} (taken : K → Option (List ℕ)) (faults : K → ℕ) (at : K) → Puts {E = Failed} taken faults at at (Ok tt) []
 nothing_put taken faults at = record { whole = Appends-nil (taken at); front = tt; later = omega arith; failed = tt }
 
--- an outcome that says nothing on err was written, where it was told on out
+-- an outcome that says nothing on err was written, where its text was put on out
 pub written_out : {O E : Type 0} (out_taken : O → Option (List ℕ)) (out_faults : O → ℕ) (err_taken : E → Option (List ℕ)) (err_faults : E → ℕ)
     (out_old out_new : O) (err : E) (status : Status) (outcome : Outcome) → err_text outcome ≡ []
     → IsTold out_taken out_faults out_old out_new status (status_of outcome) (out_text outcome)
@@ -22,7 +22,7 @@ written_out out_taken out_faults err_taken err_faults out_old out_new err status
     whole h.0 (rw none (nothing_put err_taken err_faults err)) h.1
 written_out out_taken out_faults err_taken err_faults out_old out_new err status outcome none (inr h) = out_cut h.0 h.1 refl h.2
 
--- and one that says nothing on out, where it was told on err
+-- and one that says nothing on out, where its text was put on err
 pub written_err : {O E : Type 0} (out_taken : O → Option (List ℕ)) (out_faults : O → ℕ) (err_taken : E → Option (List ℕ)) (err_faults : E → ℕ)
     (out : O) (err_old err_new : E) (status : Status) (outcome : Outcome) → out_text outcome ≡ []
     → IsTold err_taken err_faults err_old err_new status (status_of outcome) (err_text outcome)

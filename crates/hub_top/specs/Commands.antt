@@ -6,7 +6,7 @@ use Rattle.hub_commands.specs.Checks.{LacksCertificate}
 use Rattle.hub_commands.specs.Instances.{LacksOlder}
 use Rattle.hub_sources.specs.Sources.{LacksSource}
 
--- a file that the request names is not held, when its turn comes
+-- the run reads a file that the request names and that is not held
 abbrev pub Lacks : Files → Request → Type 0
 Lacks files (solve s) = LacksSource files s.source ⊎ LacksOlder files s
 Lacks files (check s certificate) = LacksSource files s ⊎ LacksCertificate files s certificate

@@ -1,4 +1,4 @@
--- What a run comes to in which nothing fails.
+-- The status of a run in which nothing fails.
 use Rattle.std.specs.Prelude.{◌≡◌, ℕ, List, Option, Some, None, ◌⊎◌}
 use Rattle.hub_io.specs.Outside.{Files}
 use Rattle.hub_spec.specs.Problem.{Problem, IsSameNetwork}
@@ -32,11 +32,11 @@ pub record Completeness (asked : Option Request) (held : Option Files) (quiet : 
   -- any command whose instance has a fault
   pub fault : (files : Files) (request : Request) (s : Source) (blame : Blame) (fault : Fault) → held ≡ Some files → asked ≡ Some request
       → instance request ≡ Some s → HasBlame files s blame fault → quiet → EndsWith Instance status
-  -- `solve`, `resolve` and `optimize` with an instance: 8 where all candidates together lack a commodity, whatever is held of an older
-  -- certificate
+  -- `solve`, `resolve` and `optimize` with an instance: 8 where all candidates together are infeasible for a
+  -- commodity, whatever is held of an older certificate
   pub networkless : (files : Files) (s : Solving) (p : Problem) (commodity : ℕ × ℕ) → held ≡ Some files → asked ≡ Some (solve s)
       → HoldsInstance files s.source p → lacking p p.candidates ≡ Some commodity → quiet → EndsWith Lacking status
-  -- and where they lack none, with bytes that do not serve as the older certificate that is named: 2
+  -- and where they are feasible, with bytes that do not serve as the older certificate that is named: 2
   pub refused : (files : Files) (s : Solving) (older bytes line : List ℕ) (said : Older) (p : Problem) → held ≡ Some files
       → asked ≡ Some (solve s) → older_named s.how ≡ Some older → HoldsInstance files s.source p → lacking p p.candidates ≡ None
       → files older ≡ Some bytes → IsSaid s.how p bytes said → older_line said ≡ Some line → quiet → EndsWith No status
@@ -47,11 +47,12 @@ pub record Completeness (asked : Option Request) (held : Option Files) (quiet : 
   pub enough : (files : Files) (s : Solving) (p : Problem) → held ≡ Some files → asked ≡ Some (solve s) → HoldsInstance files s.source p
       → lacking p p.candidates ≡ None → MayBegin (Some files) p s.how → gap_of s.how ≡ 0 → IsEnoughFor p s.search.nodes → quiet
       → EndsWith Done status
-  -- `solve`: 8 where all candidates together lack a commodity, else the status of what the rule that is asked for finds
+  -- `solve`: 8 where all candidates together are infeasible for a commodity, else the status of what the requested
+  -- rule finds
   pub solved : (files : Files) (s : Solving) (rule : SearchRule) (p : Problem) → held ≡ Some files → asked ≡ Some (solve s)
       → s.how ≡ follow rule → HoldsInstance files s.source p → quiet → EndsWith (solve_status p (method_of s.search (cold rule))) status
-  -- `resolve`, where they lack none: 2 where the older certificate does not serve, else the status of what the search rule finds from
-  -- its start
+  -- `resolve`, where they are feasible: 2 where the older certificate does not serve, else the status of what the
+  -- search rule finds from its start
   pub resolved : (files : Files) (s : Solving) (older : List ℕ) (p : Problem) (bytes : List ℕ) (said : Older) → held ≡ Some files
       → asked ≡ Some (solve s) → s.how ≡ again older → HoldsInstance files s.source p → lacking p p.candidates ≡ None
       → files older ≡ Some bytes → IsOlder p bytes said → quiet → EndsWith (older_status p s.search said) status

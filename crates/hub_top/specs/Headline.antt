@@ -14,8 +14,9 @@ use Rattle.cert_checker.specs.Shows.{ProvesOptimal}
 
 -- the headline, for what the words ask for, the files held, what out took, whether no fault rose, and the status
 pub record Headline (asked : Option Request) (held : Option Files) (old new : Option (List ℕ)) (quiet : Type 0) (status : Status) : Type 0 where
-  -- where `solve` by any rule, `resolve`, or `optimize`, whatever the gap and the older certificate, ends with status 0, the text it
-  -- wrote names hubs and routes that cost exactly the printed cost, and no nonempty set of candidate hubs with any routing costs less
+  -- `solve` by any rule, `resolve`, or `optimize` ended with status 0. Then the text it wrote names hubs and routes
+  -- that cost exactly the printed cost. No nonempty set of candidate hubs with any routing costs less. This holds for
+  -- any gap and any older certificate.
   pub solved : (files : Files) (s : Solving) → held ≡ Some files → asked ≡ Some (solve s) → status ≡ Done
       → (text : List ℕ) × Appends old new text × SolvesInstance (Some files) s text
   -- `check` on the same instance and that text ends with status 0, where no fault rises, memory is not wanting and the
@@ -29,7 +30,7 @@ pub record Headline (asked : Option Request) (held : Option Files) (old new : Op
       → asked ≡ Some (check t certificate) → StopsInstance (Some before) s text → length text ≤ certificate_limit
       → IsSameInstance before s.source files t → files certificate ≡ Some text → quiet
       → (status ≡ Stopped) ⊎ (status ≡ Memory)
-  -- wherever `check` ends with status 0, on any bytes whatever, the named network attains its cost and no plan costs less
+  -- wherever `check` ends with status 0, on any bytes, the named network attains its cost and no plan costs less
   pub certified : (files : Files) (s : Source) (certificate : List ℕ) → held ≡ Some files → asked ≡ Some (check s certificate) → status ≡ Done
       → (p : Problem) × HoldsInstance files s p
       × (bytes : List ℕ) × (files certificate ≡ Some bytes)

@@ -37,8 +37,8 @@ pub record Unread (asked : Option Request) (fails : Request → Type 0) (old new
   pub failed : fails request
   pub taken : Appends old new []
 
--- the words ask to solve an instance, by a rule or by none, or to solve it again, whose candidates lack a commodity, all of them
--- together, and out took nothing
+-- the words ask to solve an instance, by a rule or by none, or to solve it again; all candidates together are
+-- infeasible for a commodity; out took nothing
 pub record Networkless (asked : Option Request) (held : Option Files) (old new : Option (List ℕ)) : Type 0 where
   pub request : Request
   pub is_asked : asked ≡ Some request

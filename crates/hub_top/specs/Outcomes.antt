@@ -1,4 +1,4 @@
--- What a run may come to before anything is written, and what is written then.
+-- The possible outcomes of a run, and what is written for each.
 use Rattle.std.specs.Prelude.{◌≡◌, ℕ, List, [], Option, Some, None, Ok, Err, ◌⊎◌}
 use Rattle.hub_io.specs.Outside.{Files, Rose, Puts}
 use Rattle.hub_io.specs.declared.Failed.{Failed}
@@ -18,7 +18,7 @@ abbrev pub to_solve : Request → Option Source
 to_solve (solve solving) = Some solving.source
 to_solve request = None
 
--- what a run came to, before it was written
+-- the outcome of a run, before it is written
 pub data Outcome : Type 0 where
   -- the command's answer: its status and its text
   answered : Status → List ℕ → Outcome
@@ -26,7 +26,7 @@ pub data Outcome : Type 0 where
   usage : Outcome
   -- a file of the instance has this fault
   faulty : Blame → Fault → Outcome
-  -- all candidates together lack this commodity
+  -- all candidates together are infeasible for this commodity
   no_network : (commodity : ℕ × ℕ) → Outcome
   memory : Outcome
   read : Outcome
@@ -53,8 +53,8 @@ err_text memory = memory_text
 err_text read = read_text
 err_text outcome = []
 
--- the request names an instance, and the shelf failed, and a sound one that tells lacks a file that the request names, when its turn
--- comes
+-- The request names an instance, and the shelf failed. If the shelf is sound and its files are known, a file that the
+-- request names and the run reads is missing.
 abbrev pub ShelfFails : {S : Type 0} (held : S → Option Files) (faults : S → ℕ) (sound : S → Type 0) (old new : S) → Request → Type 0
 ShelfFails held faults sound old new request =
     (s : Source) × (instance request ≡ Some s) × FailsFor held faults sound old new (λ files. Lacks files request)
@@ -76,13 +76,13 @@ MayComeTo asked held fails (no_network commodity) =
 MayComeTo asked held fails memory = Unit {0}
 MayComeTo asked held fails read = (request : Request) × (asked ≡ Some request) × fails request
 
--- a text was put whole, with the outcome's status, or a front of it was
+-- a text was put whole, with the outcome's status, or a prefix of it was put, with the status `Write`
 abbrev pub IsTold : {K : Type 0} → (K → Option (List ℕ)) → (K → ℕ) → K → K → Status → Status → List ℕ → Type 0
 IsTold taken faults old new status wanted text =
     (Puts {E = Failed} taken faults old new (Ok tt) text × (status ≡ wanted))
     ⊎ ((failed : Failed) × Puts taken faults old new (Err failed) text × (status ≡ Write))
 
--- an outcome was written: both texts, or a front of the first that failed and nothing further
+-- an outcome was written: both texts, or a prefix of the first that failed and nothing further
 pub data Written {O E : Type 0} (out_taken : O → Option (List ℕ)) (out_faults : O → ℕ) (err_taken : E → Option (List ℕ)) (err_faults : E → ℕ) (out_old out_new : O) (err_old err_new : E) (status : Status) (outcome : Outcome) : Type 0 where
   whole : Puts {E = Failed} out_taken out_faults out_old out_new (Ok tt) (out_text outcome)
       → Puts {E = Failed} err_taken err_faults err_old err_new (Ok tt) (err_text outcome)

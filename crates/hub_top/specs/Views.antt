@@ -1,4 +1,4 @@
--- What a run of the code came to, as contracts see it.
+-- The outcome of a run of the code, as contracts see it.
 use Rattle.std.specs.Prelude.{ℕ, List, length, Result, Ok, Err}
 use Rattle.cert_spec.specs.Stated.{IsStatedOf}
 use Rattle.hub_model.specs.Faults.{fault_of}
@@ -76,7 +76,7 @@ abbrev pub ended : Result Settled Halt → Outcome
 ended (Ok settled) = came_to settled
 ended (Err halt) = halted halt
 
--- what a run came to
+-- the outcome of a run
 abbrev pub outcome : Intended → Outcome
 outcome (intended.Answered answer) = answered (answer_status answer.now) (answer_text answer.now)
 outcome (intended.Found instance found search lender) =
@@ -85,7 +85,7 @@ outcome (intended.NoNetwork i j) = no_network (i, j)
 outcome intended.Usage = usage
 outcome (intended.Halted halt) = halted halt
 
--- what was found is proved of the instance, and the lender is for it
+-- what was found is proved of the instance, and the workspace for duals is for it
 abbrev pub IsReady : Intended → Type 0
 IsReady (intended.Answered answer) = IsWritable answer.now
 IsReady (intended.Found instance found search lender) =

@@ -1,9 +1,9 @@
 //! The top call `run`: arguments, files and outputs to a status. It carries the headline as a clause.
 //!
-//! `specs/` in the order of reading: `Commands` (which file is missing), `Named` (which files are named), `Texts` (what
-//! is printed), `Answers` (what each command prints with each status), `Outcomes` (the possible outcomes of a run),
-//! `Meanings` (what each status says), `Completeness` (the status where nothing fails), `Headline`, `Theorems`. The
-//! commands themselves are in `hub_commands`.
+//! `specs/` in the order of reading: `Commands` (which file is missing), `Named` (which files are named), `Texts`
+//! (what is printed). Then `Answers` (what each command prints with each status), `Outcomes` (the possible outcomes of
+//! a run), `Meanings` (what each status says). Last `Completeness` (the status where nothing fails), `Headline`,
+//! `Theorems`. The commands themselves are in `hub_commands`.
 #![tactic(auto)]
 
 mod answers;

@@ -1,4 +1,4 @@
--- Lists of nodes as the words give them: where they are cut, what is read so far, and that they may be asked for.
+-- Lists of nodes as the words give them: where they are cut, what is read so far, and that a request may have them.
 use Rattle.std.proofs.Common.{◌≡◌, ℕ, zero, suc, ◌+◌, ◌-◌, ◌<◌, ◌≤◌, false, List, [], ◌∷◌, ◌++◌, length, take, drop, get_or, Option, Some, None, refl, sym, ap, subst, ◌∙◌, arith, append_assoc}
 use Rattle.std.specs.Prelude.{All, IfSome, option_and_then, option_map}
 use Rattle.std.specs.List.{position_or_len, slice_split}
@@ -92,7 +92,7 @@ read_last word nodes least rest number read uncut e =
     ap (joined nodes) (sym (nodes_more least rest [] number (sym e) ∙ ap (node_before (number - 1)) (nodes_end (number + 1))) ∙ ap (nodes_from least) (sym uncut))
     ∙ read.left
 
--- ---- that they may be asked for
+-- ---- that a request may have them
 
 record AreFrom (least : ℕ) (nodes : List ℕ) : Type 0 where
   ascend : IsStrictlyIncreasing nodes

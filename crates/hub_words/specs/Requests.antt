@@ -11,22 +11,23 @@ pub record Source : Type 0 where
   pub options : Options
   pub costs : Option (List ℕ)
 
--- how long and by how many workers a search may run, at most this many nodes, if a number is given, and in which version its
--- certificate is written
+-- The limits of a search: the most nodes, if a number is given, the number of workers, and the version of its
+-- certificate.
 pub record Search : Type 0 where
   pub nodes : Option ℕ
   pub workers : ℕ
   pub version : ℕ
 
--- the rules of a search: node by node, the same with core cuts where there are, or in rounds of nodes side by side
+-- the rules of a search: node by node, the same with Pareto-optimal cuts where there are any, or in rounds of nodes
+-- side by side
 pub data SearchRule : Type 0 where
   node_by_node : SearchRule
   by_core_cuts : SearchRule
   by_rounds : SearchRule
 
--- how an instance is solved: by a rule, again node by node from the cuts of the older certificate of which this is the file's name,
--- or freely, by a search that follows no rule, up to a gap in thousandths of a per cent of the cost and from what an older
--- certificate says, if the name of its file is given
+-- How an instance is solved: by a rule, again node by node, or freely, by no rule. `again` has the file name of the
+-- older certificate whose cuts are used. `freely` has a gap in thousandths of a per cent of the cost. It may have the
+-- file name of an older certificate to begin with.
 pub data How : Type 0 where
   follow : SearchRule → How
   again : (older : List ℕ) → How
@@ -43,7 +44,8 @@ pub record Making : Type 0 where
   pub seed : ℕ
   pub size : ℕ
 
--- a command: solve an instance, check a certificate against it, report on a certificate, make an instance, or make one and solve it
+-- a command: solve an instance, check a certificate against it, report on a certificate, make an instance, or make and
+-- solve one
 pub data Request : Type 0 where
   solve : Solving → Request
   check : Source → (certificate : List ℕ) → Request
@@ -109,7 +111,7 @@ pub record AreSources (s : Source) : Type 0 where
   pub no_tail : IsSome s.costs → s.options.tail ≡ tail_costs → ⊥
   pub not_fixed_too : s.options.tail ≡ tail_costs → s.options.fixed ≡ None
 
--- the number of hubs that the file lists is asked for only of a file that lists one
+-- the wanted number of hubs is that of the file only where the file lists one
 abbrev pub AsksListed : Source → Type 0
 AsksListed s = s.options.hubs ≡ Some listed_number → s.layout ≡ australia_post
 
@@ -117,13 +119,14 @@ AsksListed s = s.options.hubs ≡ Some listed_number → s.layout ≡ australia_
 abbrev pub IsVersion : ℕ → Type 0
 IsVersion v = (1 ≤ v) × (v ≤ 2)
 
--- with core cuts neither the length of routes nor the number of hubs is limited, and the version is the third
+-- with Pareto-optimal cuts neither the length of routes nor the number of hubs is limited, and the version is the
+-- third
 pub record AsksCoreCuts (o : Options) (version : ℕ) : Type 0 where
   pub unlimited : is_limited o ≡ false
   pub third : version ≡ 3
 
--- the version of the certificate, and what is asked of the options: by rounds any number of hubs will do, and what is solved again
--- is written in the second version
+-- The options and the version of the certificate fit how the instance is solved. By rounds no number of hubs is
+-- wanted. `again` writes the second version.
 abbrev pub IsAllowed : How → Options → (version : ℕ) → Type 0
 IsAllowed (follow node_by_node) o version = IsVersion version
 IsAllowed (follow by_core_cuts) o version = AsksCoreCuts o version
@@ -139,7 +142,7 @@ SaysLimits o version = is_limited o ≡ true → version ≡ 2
 abbrev pub IsGap : ℕ → Type 0
 IsGap gap = gap ≤ most_gap
 
--- what is to be solved is asked for as it may be
+-- the request to solve is lawful
 pub record IsSolving (s : Solving) : Type 0 where
   pub allowed : IsAllowed s.how s.source.options s.search.version
   pub sayable : SaysLimits s.source.options s.search.version

@@ -80,7 +80,7 @@ abbrev pub hub_number_named : Layout → List ℕ → Option HubNumber
 hub_number_named layout word =
     if bytes_eq word (codes "file") then listed_in layout else option_map (λ n. said_number n) (count_value 1 most_nodes word)
 
--- how many hubs are wanted, where a number is asked for
+-- the wanted number of hubs, where the words give one
 abbrev pub hubs_asked : Layout → Option (List ℕ) → Option (Option HubNumber)
 hubs_asked layout = optional (hub_number_named layout)
 
@@ -141,12 +141,12 @@ abbrev pub rule_asked : Option (List ℕ) → Option SearchRule
 rule_asked None = Some node_by_node
 rule_asked (Some word) = rule_named word
 
--- whether the cuts of this name are core cuts
+-- whether this name stands for Pareto-optimal cuts
 abbrev pub cuts_named : List ℕ → Option Bool
 cuts_named word =
     if bytes_eq word (codes "minimal") then Some false else if bytes_eq word (codes "core") then Some true else None
 
--- whether core cuts are asked for; not where nothing is said of the cuts
+-- whether the words ask for Pareto-optimal cuts; not where they say nothing of the cuts
 abbrev pub core_cuts_asked : Option (List ℕ) → Option Bool
 core_cuts_asked None = Some false
 core_cuts_asked (Some word) = cuts_named word

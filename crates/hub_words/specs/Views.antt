@@ -34,7 +34,7 @@ layout_of AustraliaPost = file.australia_post
 abbrev pub source_of : Source → request.Source
 source_of s = record { layout = layout_of s.layout; file = s.file.now; options = s.terms; costs = option_map (λ name. name.now) s.costs }
 
--- the search that is asked for
+-- the requested search
 abbrev pub search_seen : Search → request.Search
 search_seen s = record { nodes = s.nodes; workers = s.workers; version = version_number s.version }
 

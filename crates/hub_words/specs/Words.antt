@@ -20,7 +20,7 @@ abbrev pub factors_asked : List Row → Option (Option ℕ × Option ℕ × Opti
 factors_asked rows =
     three (factor_asked (given rows (codes "collect"))) (factor_asked (given rows (codes "trunk"))) (factor_asked (given rows (codes "deliver")))
 
--- the longest route and the number of hubs, which are not asked for together
+-- the longest route and the number of hubs; no request has both
 abbrev pub limits_from : Option (Option ℕ) → Option (Option HubNumber) → Option (Option ℕ × Option HubNumber)
 limits_from (Some longest) (Some hubs) = if is_some longest && is_some hubs then None else Some (longest, hubs)
 limits_from longest hubs = None
@@ -113,7 +113,7 @@ making_asked rows = making_from (seed_asked (given rows (codes "seed"))) (size_a
 
 -- ---- how an instance is solved
 
--- a rule, with core cuts where these are asked for; the rule by rounds knows none
+-- a rule, with Pareto-optimal cuts where the words ask for them; the rule by rounds has none
 abbrev pub with_cuts : (core : Bool) → SearchRule → Option SearchRule
 with_cuts false rule = Some rule
 with_cuts true by_rounds = None
@@ -138,8 +138,9 @@ again_asked rows = option_map again (given rows (codes "older"))
 
 -- ---- what is to be solved
 
--- the version of the certificate, where the options allow to solve so: with core cuts the third, where none is named and neither
--- routes nor hubs are limited; by rounds no number of hubs is wanted; what is solved again is written in the second
+-- The version of the certificate, where the options allow to solve so. With Pareto-optimal cuts it is the third. Then
+-- no version may be named, and neither routes nor hubs limited. By rounds no number of hubs is wanted. `again` writes
+-- the second version.
 abbrev pub version_by : How → Options → Option Text → Option ℕ
 version_by (follow node_by_node) o word = version_asked (is_limited o) word
 version_by (follow by_core_cuts) o word = if is_some word || is_limited o then None else Some 3

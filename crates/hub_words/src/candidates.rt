@@ -49,7 +49,7 @@ fn nodes_listed(alloc: Global, word: &str) -> Result<Option<Nodes>, AllocError>
     Ok(Some(Nodes::from_vec(nodes)))
 }
 
-/// What stands before the first comma, and what stands behind it.
+/// The text before the first comma, and the text behind it.
 fn cut(text: &str) -> Option<(&str, &str)>
     ensures parts { MatchOption result (slice_split is_comma text.now ≡ text.now ∷ []) (λ p. slice_split is_comma text.now ≡ p.0.now ∷ slice_split is_comma p.1.now) }
     ensures text { IfSome result (λ p. IsUtf8 p.1.now) }

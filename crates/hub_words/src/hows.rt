@@ -21,7 +21,7 @@ pub(crate) fn by_rule<'a>(found: &ArgMatches<'a>) -> Option<How<'a>>
     Some(How::Follow(with_cuts(core, rule)?))
 }
 
-/// The rule, with Pareto-optimal cuts where these are asked for; the rule by rounds knows none.
+/// The rule, with Pareto-optimal cuts where `core` holds. None for the rule by rounds with such cuts.
 fn with_cuts(core: bool, rule: SearchRule) -> Option<SearchRule>
     ensures { option_map rule_seen result ≡ spec.with_cuts core (rule_seen rule) }
 {

@@ -190,7 +190,7 @@ fn rule_named(word: &str) -> Option<SearchRule>
     }
 }
 
-/// Tells whether Pareto-optimal cuts are asked for: not where nothing is said of the cuts.
+/// Tells whether the word asks for Pareto-optimal cuts. Without a word the answer is no.
 pub(crate) fn core_cuts(given: Option<&str>) -> Option<bool>
     ensures { result ≡ spec.core_cuts_asked (option_map (λ word. word.now) given.entry) }
 {
@@ -311,7 +311,7 @@ pub(crate) fn longest(given: Option<&str>) -> Option<Option<u64>>
     }
 }
 
-/// How many hubs are wanted, where a number is asked for.
+/// The wanted number of hubs, if there is a word for one.
 pub(crate) fn hubs(layout: Layout, given: Option<&str>) -> Option<Option<HubNumber>>
     ensures value { option_map (option_map number_of) result ≡ spec.hubs_asked (layout_of layout) (option_map (λ word. word.now) given.entry) }
     ensures limit { IfSome result (λ hubs. IfSome (option_map number_of hubs) IsHubNumber) }

@@ -62,7 +62,8 @@ pub(crate) fn read_factors(reader: &mut Reader<'_>) -> Result<Factors, InstanceF
     })
 }
 
-/// Reads the tail of a file with n nodes: where it is asked for, a fixed cost for each node and the file's end.
+/// Reads the tail of a file with n nodes. Where `tail` says so, this is a fixed cost for each node, and then the
+/// file's end.
 pub(crate) fn read_tail(
     alloc: Global,
     reader: &mut Reader<'_>,

@@ -44,7 +44,7 @@ taken_at taken s = get nat_cmp taken s
 abbrev pub TakesIn : Taken → Taken → ℕ → Listed → Type 0
 TakesIn old new s listed = (q : ℕ) → taken_at new q ≡ cond (nat_eq s q) (Some listed) (taken_at old q)
 
--- the next row is legal by itself, and its commodity stands already
+-- the next row is legal by itself, and its commodity has a row already
 pub record IsRepeat (n : ℕ) (r : Unread) (taken : Taken) (fault : Fault) : Type 0 where
   pub legal : IsRowLegal n r
   pub stands : is_some (taken_at taken (commodity_here n r)) ≡ true

@@ -1,4 +1,4 @@
--- What the limits of the lent numbers keep: weighted sums, gains and bounds.
+-- What the limits of a weighting's numbers imply: weighted sums, gains and bounds are within their limits.
 use Rattle.std.proofs.Common.{◌≡◌, ℕ, ℤ, pos, suc, ◌+◌, ◌*◌, ◌/◌, ◌<◌, ◌≤◌, ◌+ℤ◌, ◌-ℤ◌, ◌^◌, FitsSigned, to_z, of_z, List, [], ◌∷◌, length, get_or, take, map, All, refl, sym, subst, ap, ap₂, ◌∙◌, arith}
 use Rattle.std.specs.Int.{w128, int_min}
 use Rattle.std.specs.List.{AllZip}

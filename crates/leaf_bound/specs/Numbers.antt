@@ -1,4 +1,4 @@
--- The numbers that are lent, and their limits.
+-- The borrowed numbers of a weighting, and their limits.
 use Rattle.std.specs.Prelude.{◌≡◌, ℕ, ◌<◌, ◌≤◌, ◌*◌, List, length, map, sum, slice_index, All}
 use Rattle.std.specs.List.{AllZip}
 use Rattle.hub_spec.specs.Limits.{most_nodes, most_cost, most_denominator, most_part}
@@ -10,11 +10,11 @@ use Rattle.leaf_bound.specs.Bounds.{Weighting, AreMultiples, loads_of}
 abbrev pub IsSumOf : ℕ → ℕ → Type 0
 IsSumOf part x = x ≤ part * most_cost
 
--- the loads that are lent, a row for each cut
+-- the borrowed loads, a row for each cut
 abbrev pub rows_of : lent.Weighting → List (List ℕ)
 rows_of m = map (λ v. v.items) m.loads.now
 
--- the numbers that are lent are within their limits, but for those of single nodes
+-- the borrowed numbers are within their limits, but for those of single nodes
 pub record AreWeightingNumbers (m : lent.Weighting) : Type 0 where
   pub some_nodes : length m.fixed.now ≤ most_nodes
   pub few_weights : length m.weights.now ≤ length m.totals.now

@@ -1,15 +1,16 @@
 //! The bound of a node of the tree under weights on its cuts (Lagrangean bound of the master).
 //!
-//! A [`Weighting`] lends each cut's total, its loads by node and its part, and the fixed costs of the nodes, in 10^-12, and
-//! weights as shares of a denominator D. A weight counts as often as it has its cut's part. The gain of a node is D times
-//! its fixed cost, less its weighted loads. The bound of a branch is the weighted sum of the totals, with the gain of each
-//! node inside and the negative gains of free nodes; bounds and gains are in 10^-12, times D. A branch is fathomed at a
-//! cutoff t where its bound is above D * (t - 1): then none of its plans costs less than t.
+//! A [`Weighting`] borrows each cut's total, its loads by node and its part, and the fixed costs of the nodes, in
+//! 10^-12. Its weights are shares of a denominator D. A weight counts as often as it has its cut's part. The gain of a
+//! node is D times its fixed cost, less its weighted loads. The bound of a branch is the weighted sum of the totals,
+//! with the gain of each node inside and the negative gains of free nodes. Bounds and gains are in 10^-12, times D. A
+//! branch is fathomed at a cutoff t where its bound is above D * (t - 1): then none of its plans costs less than t.
 //!
-//! A [`Side`] of a free candidate stays where the child on its other side is fathomed; `hub_fixing` and `p_hub` find it.
+//! A free candidate is fixed to a [`Side`] where the child on its other side is fathomed; `hub_fixing` and `p_hub` find
+//! it.
 //!
-//! Weights stand in the order of the cuts, and missing ones count as 0. Limits are asked of the branch's own nodes. No call
-//! takes memory.
+//! Weights are in the order of the cuts, and missing ones count as 0. The limits of loads and fixed costs are required
+//! only for the branch's own nodes. No call takes memory.
 #![tactic(auto)]
 
 mod bounds;

@@ -1,4 +1,4 @@
-//! The side of a candidate that stays.
+//! The side to which a candidate is fixed.
 
 /// The value to which variable fixing sets a candidate.
 #[derive(Clone, Copy, Debug, PartialEq, Eq)]

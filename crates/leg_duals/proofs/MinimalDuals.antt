@@ -96,7 +96,7 @@ price_costs w prices j is are low some =
           omega (arith, mul-le-mul_left f b.6, way_cost_is w b.0 b.1 j, cost));
     }
 
--- the value of a place is the least that is asked
+-- the value of a place is the least that meets what the ways ask
 least_asked : (w : WaysFrom) (prices : List ℕ) (values : ℕ → ℕ → ℕ) (j t : ℕ) → AreValues w prices values t → j < w.size
     → IsLeastAsked w.hubs w.order (λ k m. IsNear w k m j) (λ k m. way w k m j) (slice_index prices j) (λ e. values e j) t (values t j)
 least_asked w prices values j t are low = record {

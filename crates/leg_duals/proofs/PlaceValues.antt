@@ -1,4 +1,4 @@
--- The least value of a place by unit of flow, times the flow, is what is asked of its node.
+-- The least value of a place by unit of flow, times the flow, is what the routes ask of its node.
 use Rattle.std.proofs.Common.{◌≡◌, ℕ, ◌+◌, ◌-◌, ◌*◌, ◌<◌, ◌≤◌, true, List, length, get_or, take, slice_index, Contains, Option, Some, None, ⊎_elim, zero, suc, refl, ap, sym, subst, ◌∙◌, arith}
 use Rattle.std.proofs.lemmas.Bool.{cases_lt}
 use Rattle.std.proofs.Math.Nat.{mul-le-mul_left}
@@ -13,7 +13,8 @@ use Rattle.hub_spec.proofs.Ways.{way_is, way_asks, single_asks, ask_turned, edge
 use Rattle.leg_duals.specs.StopLegs.{stop_node}
 use Rattle.leg_duals.proofs.StopNodes.{IsHubPlace, place_node, hub_place, place_hub}
 
--- for a commodity with the flow w: which ways by two stops are allowed, and the flow times their lengths are their routes' costs
+-- for a commodity with the flow w: which ways by two stops are allowed, and the flow times their lengths are their
+-- routes' costs
 pub record AreWaysPriced (p : Problem) (hubs order : List ℕ) (c : ℕ × ℕ) (w : ℕ) (near : ℕ → ℕ → Type 0) (long : ℕ → ℕ → ℕ) : Type 0 where
   pub cost : (k m : ℕ) → k < length order + length hubs → m < length order + length hubs
       → w * long k m ≡ route_cost p c.0 c.1 (stop_node hubs order k) (stop_node hubs order m)
@@ -62,7 +63,7 @@ place_before order t m below within =
     subst (Contains (take t order)) (get_or-take t order m 0 below)
     (Contains-get_or (take t order) m 0 (omega (arith, below, length-take-le t order (omega (arith, within)))))
 
--- ---- what is asked is met
+-- ---- what the ways ask is met
 
 scaled : (w a v u : ℕ) → a ≤ v + u → w * a ≤ w * v + w * u
 scaled w a v u h = omega (arith, mul-le-mul_left w h)

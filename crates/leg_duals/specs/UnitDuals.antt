@@ -5,8 +5,8 @@ use Rattle.hub_spec.specs.Cuts.{value_at}
 use Rattle.hub_spec.specs.Separation.{minimal_dual}
 use Rattle.unit_duals.specs.Cells.{cell}
 
--- the prices of the commodities from i to n destinations from `start` on, and the values of the candidates of the order
--- for them, row by row, are those of their minimal duals by unit of flow
+-- The prices and values are those of minimal duals by unit of flow. The commodities are those from i to n
+-- destinations from `start` on. The values are in rows, one for each candidate of the order.
 pub record AreUnitDuals (p : Problem) (hubs order : List ℕ) (i start n : ℕ) (prices values : List ℕ) : Type 0 where
   pub prices_long : length prices ≡ n
   pub values_long : length values ≡ length order * n

@@ -46,8 +46,8 @@ impl<W: Write + Drop> Sink for StreamSink<W> {
     }
 }
 
-/// Writes the whole piece, or tells that the stream failed and took a front of it. A stream that takes nothing of a piece
-/// has failed; an interrupted write is tried again.
+/// Writes the whole piece. False says that the stream failed and took a prefix of it. A stream that takes nothing of a
+/// piece has failed; an interrupted write is tried again.
 fn write_whole<W: Write>(stream: &mut W, piece: &[u8]) -> bool
     ensures { MatchBool result (Appends (W.contents stream.old) (W.contents stream.new) piece.now)
         (AppendsFront (W.contents stream.old) (W.contents stream.new) piece.now) }

@@ -176,14 +176,14 @@ turn_there t s left round place o is stands inside here =
       sound = outcome_alike p s.pool.entries s'.pool.entries (get_or xs place d) (get_or ys place d) o cuts node (here d).sound;
     }
 
--- so it is where the turn is to be told
+-- so it is where the evaluation is to be sent
 pub worked_there : (t : Task) (s : Progress) (left : Left) (w : Worked) (turn round place : ℕ) (o : Outcome) → IsLeft t s left
     → standing_of t.instance.now s left ≡ after_rounds t.instance.now t.nodes round → place < length (turned_of left.nodes.items)
     → HoldsAt (λ x. IsTurnBy t.instance.now s x o) (turned_of left.nodes.items) place → w ≡ record { turn = turn; round = round; place = place; outcome = o } → IsWorked t w
 worked_there t s left w turn round place o is stands inside here same =
     subst (IsWorked t) (sym same) (turn_there t s left round place o is stands inside here)
 
--- a turn that was told is the node's, and so is an outcome that is as good
+-- a received evaluation is the node's, and so is an outcome that is as good
 pub told_turn : (t : Task) (s : Progress) (left : Left) (w : Worked) (round place : ℕ) (o : Outcome) → IsWorked t w → w.round ≡ round → w.place ≡ place
     → IsAsGood w.outcome o → IsLeft t s left → standing_of t.instance.now s left ≡ after_rounds t.instance.now t.nodes round
     → HoldsAt (λ x. IsTurnBy t.instance.now s x o) (turned_of left.nodes.items) place

@@ -62,7 +62,7 @@ lines_twice xs ys c = ap (λ (ls : List TreeLine). (let x : Closed = record { st
 
 -- ---- by the code
 
--- with the lines so far and the end of what is left it comes to the whole end
+-- the lines so far, with the end of what is left, are the whole end
 pub record IsClosing (t : Task) (s₀ : Progress) (left : Left) (s : Progress) (ms : List Mark) (xs : List Pending) : Type 0 where
   pub whole : lines_before (lines_of s.lines.items) (closed_up t.instance.now (parts_of t.instance.now) (placed ms xs []) (state_of t.instance.now s))
       ≡ closed_up t.instance.now (parts_of t.instance.now) (lines_first s₀.lines.items (left_of left)) (state_of t.instance.now s₀)

@@ -38,7 +38,7 @@ EndsInFirst (ends t) = IsFirst t
 EndsInFirst (asks set order w more) = Unit {0}
 EndsInFirst (splits w fs advice) = Unit {0}
 
--- the ends by numbers are so, and a branch with none of them lacks no commodity
+-- the ends by numbers are so, and a branch with none of them is feasible for each commodity
 record EndsFirst (parts : Parts) : Type 0 where
   barren : (b : Branching) (t : Tree) → parts.barren b ≡ Some t → IsFirst t
   blocked : (b : Branching) → parts.barren b ≡ None → parts.blocked b ≡ None

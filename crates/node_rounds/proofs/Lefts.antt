@@ -39,7 +39,7 @@ placed_node (Line m ∷ ms) xs x after same = placed_node ms xs x (places.line (
 placed_node (Node ∷ ms) [] x after same = absurd (omega (arith, same))
 placed_node (Node ∷ ms) (y ∷ ys) x after same = placed_node ms ys x (places.open_at (pending_of y) ∷ after) (omega (arith, same))
 
--- ---- the same, where marks and nodes are told
+-- ---- the same, by equations of marks and nodes
 
 -- marks and nodes stay matched with a line more or less
 pub line_matched : (ms more : List Mark) (xs : List Pending) (l : model.TreeLine) → more ≡ ms ++ Line l ∷ [] → AreMatched ms xs → AreMatched more xs

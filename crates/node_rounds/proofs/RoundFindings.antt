@@ -47,14 +47,14 @@ rounds_at_most p n ok =
     least_to p (first_hubs p) (found_by_rounds p n).state.cost (start_of p).cost (cost_falls p (parts_of p) n (start_of p))
     (begun_most p (parts_of p) ok.lacks_none (parts_sound p ok.problem))
 
--- each cut that is found is made anew: it is of a set, and not marked
+-- each cut that is found is made from scratch: it is from a hub set, and not marked
 pub rounds_remade : (p : Problem) (n : Option ℕ) (found : Found) → IsSearchable p → IsFound p (found_by_rounds p n) found → AreRemade found
 rounds_remade p n found ok is =
     let own = rule_rounds_own p n in
     own_by_sets found.cuts.cuts (subst (All (λ (set : Option (List ℕ)). IsSome set)) (sym is.sets) own.0)
     (subst (All (λ mark. IsNone mark)) (sym is.marks) own.1)
 
--- the rule begins so without core cuts
+-- the rule begins so without Pareto-optimal cuts
 pub begun_minimal : (p : Problem) (s : State) (kind : CutKind) → kind ≡ minimal → s ≡ begun_for p (parts_for kind p) p.wanted
     → s ≡ begun_for p (parts_of p) p.wanted
 begun_minimal p s kind is begun = subst (λ (k : CutKind). s ≡ begun_for p (parts_for k p) p.wanted) is begun

@@ -79,7 +79,7 @@ stopped_when p s left stopped = by (has_pending (lines_first s.lines.items (left
 
 -- ---- the rounds
 
--- the rounds from here on come to those of the whole search
+-- the rounds from here on end as those of the whole search do
 pub record IsSearching (t : Task) (s₀ : Progress) (front : Front) (left : Left) : Type 0 where
   pub rest : rounds (turns_of (length t.instance.now.candidates)) t.instance.now (parts_of t.instance.now) t.nodes (standing_of t.instance.now front.progress left)
       ≡ stood t.instance.now (parts_of t.instance.now) t.nodes (state_of t.instance.now s₀)

@@ -94,7 +94,7 @@ settle_line before done left marks lines more x l is ends line pushed few =
 
 -- ---- a round's end
 
--- what is told of three successes of one call
+-- what follows from three properties of one call, where it succeeds
 told_thrice : {X Y A B C D : Type 0} (r : Result X Y) → OnOk r A → OnOk r B → OnOk r C → (A → B → C → D) → OnOk r D
 told_thrice (Ok x) a b c go = go a b c
 told_thrice (Err e) a b c go = tt

@@ -1,4 +1,4 @@
--- What a turn comes to, by the tests that the code makes.
+-- The outcome of a node evaluation, by the tests that the code makes.
 use Rattle.std.proofs.Common.{◌≡◌, ℕ, ◌≤◌, ◌<◌, Bool, true, false, not, ◌&&◌, nat_lt, ltb-true, List, [], ◌∷◌, length, get_or, map, Option, Some, None, is_some, if◌then◌else◌, refl, ap, sym, ◌∙◌, arith}
 use Rattle.std.proofs.lemmas.Bool.{and_parts}
 use Rattle.std.proofs.lemmas.List.{length-append}
@@ -32,7 +32,7 @@ one_line empty l is = ap (λ (ls : List TreeLine). tree_of (get_or ls 0 no_hub))
 one_line (block commodity) l is = ap (λ (ls : List TreeLine). tree_of (get_or ls 0 no_hub)) (sym is)
 one_line count l is = ap (λ (ls : List TreeLine). tree_of (get_or ls 0 no_hub)) (sym is)
 
--- the tree of a line that is told of an end is that end
+-- where a line is that of an end, its tree is this end
 pub end_tree : (end : Option Tree) (l : TreeLine) (has : HasEnd end l) → tree_of l ≡ has.tree
 end_tree end l has = one_line has.tree l has.one
 
@@ -52,7 +52,7 @@ pub turn_barren : (p : Problem) (parts : Parts) (s : State) (x : Pending) (tree 
 unfolding turn
 turn_barren p parts s x tree barren = rw barren refl
 
--- a line ends it since it lacks a commodity
+-- a line ends it since it is infeasible for a commodity
 pub turn_blocked : (p : Problem) (parts : Parts) (s : State) (x : Pending) (tree : Tree) → parts.barren x.branch ≡ None
     → parts.blocked x.branch ≡ Some tree → ends tree ≡ turn p parts s x
 unfolding turn
@@ -82,9 +82,9 @@ unfolding turn_alone
 alone_new parts x set other order o is same ascends =
     (λ i. asks (same i) (ascends i) x.weights false) ∙ sym (ap (λ (m : Option ℕ). turn_alone parts x set m) is)
 
--- ---- a turn by advice
+-- ---- an evaluation by the master's result
 
--- the turn once advice and weights are known
+-- the outcome once the master's result and the better weights are known
 turn_with : Problem → Parts → State → Pending → Advice → List (ℕ × ℕ) → Outcome
 turn_with p parts s x a best =
     if closes_at p s x.branch best then ends (leaf denominator best)
@@ -92,7 +92,7 @@ turn_with p parts s x a best =
     then asks (parts.pick a x.branch) (parts.falling a (parts.pick a x.branch)) best true
     else splits best (fixings p s x.branch best) a
 
--- the advice, and the better weights
+-- the master's result, and the better weights
 pub record IsAdvisedBy (p : Problem) (s : State) (x : Pending) (a : Advice) (best : List (ℕ × ℕ)) : Type 0 where
   pub advice : a ≡ master_advising p s x.branch
   pub weights : best ≡ better p s x.branch x.weights a.weights
@@ -125,12 +125,12 @@ falling_is : (p : Problem) (a : Advice) (set : List ℕ) → (parts_of p).fallin
 unfolding rule_parts order_by_point
 falling_is p a set = refl
 
--- the better weights close the cost
+-- the better weights fathom the branch at the incumbent's cost
 pub advised_leaf : (p : Problem) (s : State) (x : Pending) (a : Advice) (best : List (ℕ × ℕ)) → IsAdvisedBy p s x a best
     → closes_at p s x.branch best ≡ true → ends (leaf denominator best) ≡ turn_advised p (parts_of p) s x
 advised_leaf p s x a best is closes = with_leaf p (parts_of p) s x a best closes ∙ with_is p s x a best is
 
--- the set is asked for
+-- the node asks for the set
 pub advised_ask : (p : Problem) (s : State) (x : Pending) (a : Advice) (best : List (ℕ × ℕ)) (set order : List ℕ) → IsAdvisedBy p s x a best
     → closes_at p s x.branch best ≡ false → set ≡ (parts_of p).pick a x.branch
     → (not (is_some (number_in_pool s set)) && nat_lt x.waits most_waits) ≡ true → order ≡ by_falling a.point (others p set)

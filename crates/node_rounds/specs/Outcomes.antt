@@ -44,13 +44,14 @@ outcome_of (Split weights fixings advice) = places.splits (pairs_of weights.item
 abbrev pub IsTurnOf : Problem → List Entry → ℕ → Pending → Outcome → Type 0
 IsTurnOf p entries cost x o = InEachStateAt p entries cost (λ s. outcome_of o ≡ turn p (parts_of p) s (pending_of x))
 
--- these are the sums of the cut of the set over the order
+-- these are the sums of the Benders cut from the hub set over the order
 pub record AreSumsOver (p : Problem) (set order : List ℕ) (sums : Sums) : Type 0 where
   pub hubs : sums.hubs ≡ set
   pub is : IsSumsOf p (entry_of sums order)
 
--- what whoever takes an outcome may rely on: a line that is no branch's; a hub set with an order, weights on the first of these
--- cuts, few waits, and its own sums, if any; such weights, and fixings on free nodes of a branch that goes on
+-- what may be relied on of an outcome. A line is no branch's. A hub set comes with an order, weights on the first of
+-- these cuts, few waits, and its own sums, if any. A split has such weights, and fixings on free nodes of a branch that
+-- goes on
 abbrev pub IsOutcomeOf : Problem → List Entry → Pending → Outcome → Type 0
 IsOutcomeOf p entries x (Ends l) = places.lines_of (tree_of (tree_line_of l)) ≡ places.line (tree_line_of l) ∷ []
 IsOutcomeOf p entries x (Ask set order weights waited sums) =

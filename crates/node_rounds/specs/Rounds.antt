@@ -15,7 +15,7 @@ pub record IsRound (r : Round) : Type 0 where
   pub nodes : All (IsPendingOf r.instance.now r.pool.now.entries) r.nodes.now
   pub cost : r.cost ≤ 10 ^ 30
 
--- the outcome is the turn of the node at this place
+-- the outcome is that of evaluating the node at this position
 pub record IsTurnAt (r : Round) (i : ℕ) (o : Outcome) : Type 0 where
   pub turn : HoldsAt (λ x. IsTurnOf r.instance.now r.pool.now.entries r.cost x o) r.nodes.now i
   pub sound : HoldsAt (λ x. IsOutcomeOf r.instance.now r.pool.now.entries x o) r.nodes.now i

@@ -1,4 +1,4 @@
--- What searchers side by side tell each other, and what they may rely on.
+-- What searchers side by side send each other, and what they may rely on.
 use Rattle.std.specs.Prelude.{◌≡◌, ℕ, zero, suc, List, Option}
 use Rattle.std.specs.List.{HoldsAt}
 use Rattle.hub_spec.specs.Problem.{Problem}
@@ -47,7 +47,8 @@ unfoldable pub after_rounds : Problem → Option ℕ → ℕ → places.Standing
 after_rounds p n zero = at_root p (first_state p)
 after_rounds p n (suc round) = next_round p (parts_of p) n (after_rounds p n round)
 
--- the outcome is the turn of the node at this place of the round, whoever has come so far in the search of the task
+-- the outcome is that of evaluating the node at this position of the round, for each searcher of the task that has come
+-- so far
 abbrev pub IsTurnIn : Task → ℕ → ℕ → Outcome → Type 0
 IsTurnIn t round place o =
     (s : Progress) (left : Left) → IsLeft t s left → standing_of t.instance.now s left ≡ after_rounds t.instance.now t.nodes round

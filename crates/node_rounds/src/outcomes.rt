@@ -44,7 +44,7 @@ pub enum Outcome {
     Split {
         /// The node's new weights, in 10^-6.
         weights: Vec<u128>,
-        /// The free candidates that are fixed, ascending, each with the side that stays.
+        /// The free candidates fixed by variable fixing, ascending, each with its fixed side.
         fixings: Vec<(u32, Side)>,
         /// The master's result, whose point chooses the node to branch on.
         advice: Advice,
@@ -100,7 +100,7 @@ fn copied_line(alloc: Global, line: &TreeLine) -> Result<TreeLine, AllocError>
     })
 }
 
-// The same advice again.
+// A copy of the master's result.
 fn copied_advice(alloc: Global, advice: &Advice) -> Result<Advice, AllocError>
     ensures { IfOk result (λ copy. advice_of_code copy ≡ advice_of_code advice.now) }
 {

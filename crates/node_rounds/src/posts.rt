@@ -10,8 +10,8 @@ use search_core::Task;
 use std::alloc::{AllocError, Global};
 use std::sync::Arc;
 
-/// A turn that was worked out, with its number in the search: what the node at a place of a round comes to. All are counted
-/// from 0.
+/// A finished node evaluation, with its number in the search: the outcome of the node at a position of a round.
+/// Numbers, rounds and positions are counted from 0.
 #[derive(Drop)]
 pub(crate) struct Worked {
     pub(crate) turn: u64,
@@ -20,7 +20,7 @@ pub(crate) struct Worked {
     pub(crate) outcome: Outcome,
 }
 
-/// It is told in the search of a task.
+/// It is what searchers of one task send each other.
 impl<'a> Told<Task<'a>> for Worked {
     ghost holds = { IsWorked };
 

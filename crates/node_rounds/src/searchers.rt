@@ -89,7 +89,7 @@ impl<'s, 'a> Searcher<'s, 'a> {
         self.past.wrapping_add(place as u64)
     }
 
-    // Works out the turns that it draws in this round, and tells them.
+    // Evaluates the nodes that it draws in this round, and sends the outcomes.
     fn work<G: Gate>(
         &mut self,
         gate: &G,
@@ -193,7 +193,7 @@ impl<'s, 'a> Searcher<'s, 'a> {
     }
 }
 
-// The whole search by the searcher of this desk.
+// The whole search by the searcher at this endpoint.
 fn search_at<'a, R: Threads + Sync, G: Gate>(
     workers: &Workers<R, G>,
     alloc: Global,
@@ -225,7 +225,7 @@ fn search_at<'a, R: Threads + Sync, G: Gate>(
     )
 }
 
-// The same, which the others are told: if it is done none waits for it, and if it gives up so do they.
+// The same, with its end known to the others: once it is done none waits for it, and if it gives up so do they.
 fn search_to_end<'a, R: Threads + Sync, G: Gate>(
     workers: &Workers<R, G>,
     alloc: Global,
@@ -248,7 +248,7 @@ fn search_to_end<'a, R: Threads + Sync, G: Gate>(
     found
 }
 
-// The last desk, which is taken from the others. All are of this task.
+// The last endpoint, which is removed from the others. All are of this task.
 fn last_desk<'a>(
     _task: &Task<'a>,
     desks: &mut Vec<Desk<Task<'a>, Worked>>,
@@ -261,7 +261,7 @@ fn last_desk<'a>(
     desks.pop()
 }
 
-// The whole search by the searcher of the last desk, beside those of the others.
+// The whole search by the searcher at the last endpoint, beside those at the others.
 #[cycle(together)]
 fn together<'a, R: Threads + Sync, G: Gate>(
     workers: &Workers<R, G>,

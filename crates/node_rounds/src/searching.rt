@@ -39,7 +39,7 @@ use std::thread::Threads;
 // From how many nodes of the instance on a turn takes longer than threads take to start.
 const LARGE: u32 = 50;
 
-// How large a block is asked for before the first round, in bytes.
+// The size of the block that is allocated before the first round, in bytes.
 const KEPT_BLOCK: usize = 16 << 20;
 
 /// Branch and bound by rounds, for any number of hubs. The finding has a plan with its cost, a lower bound, and the
@@ -116,14 +116,14 @@ fn searched<R: Threads + Sync, S: Separator, G: Gate>(
     search_by(workers, Turner::ByCrew, alloc, task, separator)
 }
 
-// Asks for a large block and gives it back at once. Each turn takes and gives back a few blocks of many kilobytes. The
-// system's allocator hands such blocks back to the system, which has to clear them anew each time, until it has seen a larger
-// one come back: from then on it keeps them.
+// Allocates a large block and frees it at once. Each node evaluation allocates and frees a few blocks of many
+// kilobytes. The system's allocator returns such blocks to the system, which has to clear them again each time. Once a
+// larger block has been freed, the allocator keeps them.
 fn keep_blocks(alloc: Global) {
     let _ = Vec::<u8>::with_capacity(alloc, KEPT_BLOCK);
 }
 
-/// All that the search finds, where this turner works out the turns of its rounds.
+/// All that the search finds, where this turner evaluates the nodes of its rounds.
 pub(crate) fn search_by<R: Threads + Sync, G: Gate, S: Separator>(
     workers: &Workers<R, G>,
     mut turner: Turner,

@@ -81,8 +81,8 @@ impl<'s, 'a> Turner<'s, 'a> {
     }
 }
 
-// The same by all workers. Where each has a node, the cuts that nodes ask for are worked out along with the turns; else the
-// separator is asked as the outcomes are taken, since it may share a single cut among the workers.
+// The same by all workers. Where each has a node, the cuts that nodes ask for are separated along with the evaluations.
+// Else the separator runs as the outcomes are taken, since it may share a single cut among the workers.
 fn turns_by_crew<R: Threads + Sync, G: Gate>(
     workers: &Workers<R, G>,
     alloc: Global,

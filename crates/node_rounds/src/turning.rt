@@ -21,7 +21,7 @@ use search_core::whole_leaf;
 use search_steps::{NodeWeights, Plain, Rule, Solo, closes, is_better, leaf_line, node_advice};
 use std::alloc::{AllocError, Global};
 
-// How often a node may ask for a set by its advice.
+// How often a node may ask for a set that the master's point picks.
 const MOST_WAITS: u32 = 2;
 
 /// Evaluates a node, by the pool and the incumbent's cost, in 10^-12, for any number of hubs.
@@ -189,7 +189,7 @@ fn may_ask(pool: &Pool, node: &Pending, set: &HubSet) -> bool
     node.waits < MOST_WAITS
 }
 
-// The advised weights if their bound is above that of the present ones, else the present ones.
+// The master's weights if their bound is above that of the present ones, else the present ones.
 fn better_of(
     alloc: Global,
     present: &NodeWeights,

@@ -1,4 +1,4 @@
--- The bound of a branch where just so many hubs are wanted: by gains that are read of a list, and at a leaf.
+-- The bound of a branch for exactly n hubs: by gains that are read of a list, and at a leaf.
 use Rattle.std.proofs.Common.{◌≡◌, ℕ, zero, suc, ◌<◌, ℤ, pos, ◌+ℤ◌, ◌-◌, List, [], ◌∷◌, length, get_or, All, Option, Some, None, nat_lt, if◌then◌else◌, refl, sym, ap, ap₂, ◌∙◌}
 use Rattle.std.specs.Int.{int_min}
 use Rattle.std.proofs.lemmas.List.Elements.{All-head, All-tail}
@@ -71,7 +71,7 @@ leaf_counted n p cuts m b wanted made below =
     ap (λ (o : Option ℕ). bound_by o (mixed_total cuts (weight_pairs m.weights)) (mixed_gain p cuts m.denom (weight_pairs m.weights)) b) wanted
     ∙ pairs_counted n p cuts m b made below
 
--- by the number of hubs that is wanted, if one is
+-- by the wanted number of hubs, if there is one
 pub leaf_for : (p : Problem) (wanted : Option ℕ) (cuts : List Cut) (m : Weighting) (b : Branching) → p.wanted ≡ wanted → IsWeightingOf p cuts m
     → IsBranchBelow p.size b → leaf_bound p cuts m.denom (weight_pairs m.weights) b ≡ bound_for wanted m b
 leaf_for p None cuts m b any made below = leaf_has_bound p cuts m b any made below

@@ -1,4 +1,4 @@
--- The bounds of a candidate's two children where just so many hubs are wanted, and the side that they leave it.
+-- For exactly n hubs, the bounds of a candidate's two children, and the side to which they fix it.
 use Rattle.std.proofs.Common.{◌≡◌, ℕ, ℤ, pos, ◌+◌, ◌*◌, ◌-◌, ◌+ℤ◌, ◌-ℤ◌, FitsSigned, to_z, of_z, Bool, true, false, cond, int_lt, List, length, get_or, All, Contains, ap, ap₂, ◌∙◌, subst, arith}
 use Rattle.std.specs.Prelude.{Option, Some, None}
 use Rattle.std.specs.Int.{w128, int_min, int_max}

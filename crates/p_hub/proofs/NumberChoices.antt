@@ -1,4 +1,4 @@
--- The choices of a search by the number of hubs that is wanted.
+-- The choices of a search by the wanted number of hubs.
 use Rattle.std.proofs.Common.{◌≡◌, ℕ, ◌+◌, ◌≤◌, true, false, ◌||◌, nat_eq, nat_lt, length, Option, Some, None, refl, sym, subst, ◌∙◌, true≢false, eq-eqb, ne_eqb, eqb-true, arith}
 use Rattle.std.proofs.lemmas.Bool.{eqb-false, ltb-false}
 use Rattle.std.proofs.lemmas.Option.{none-some}
@@ -26,7 +26,7 @@ open_goes_on b some =
     (λ e. (let free = ne_eqb (length b.free) 0 (λ z. some (omega (arith, z, eqb-true (length b.inside) 0 e))) in rw (e, free) refl))
     (λ e. rw e refl)
 
--- where just so many are wanted, one that cannot have so many
+-- where exactly n are wanted, a branch ends that cannot have n
 pub count_ends : (n : ℕ) (b : Branching) → (nat_lt n (length b.inside) || nat_lt (length b.inside + length b.free) n) ≡ true
     → barren_end (Some n) b ≡ Some count
 unfolding barren_end
@@ -78,7 +78,7 @@ free_when b none =
     by_test (nat_eq (length b.free) 0) (λ e. absurd (none-some b.inside (sym none ∙ decided_only b e)))
     (λ e. omega (arith, eqb-false (length b.free) 0 e))
 
--- where just so many are wanted, its hubs where they are as many, and all its open nodes where these are
+-- where exactly n are wanted, its hubs where they are n, and all its open nodes where those are n
 pub full_only : (n : ℕ) (b : Branching) → nat_eq (length b.inside) n ≡ true → only_set (Some n) b ≡ Some b.inside
 unfolding only_set
 full_only n b e = rw e refl
@@ -93,7 +93,7 @@ pub some_missing : (n : ℕ) (b : Branching) → nat_eq (length b.inside) n ≡ 
 unfolding only_set
 some_missing n b e f = rw (e, f) refl
 
--- some hubs are missing where no set is left alone, and not all free nodes are
+-- where a branch has no end and no only set, hubs are missing, but fewer than there are free nodes
 pub between : (n : ℕ) (b : Branching) → barren_end (Some n) b ≡ None → only_set (Some n) b ≡ None → IsBetween n b
 between n b barren none =
     let has : HasRoom (Some n) b = room_when (Some n) b barren in

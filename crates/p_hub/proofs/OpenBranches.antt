@@ -1,4 +1,4 @@
--- The nodes of a branch that are not closed, and what they lack together.
+-- The open nodes of a branch, and the commodity for which they are infeasible together.
 use Rattle.std.proofs.Common.{◌≡◌, ℕ, ◌+◌, ◌≤◌, [], ◌∷◌, length, Contains, Option, Some, None, ⊎_elim, refl, ap, arith}
 use Rattle.std.specs.Prelude.{option_map}
 use Rattle.std.specs.List.Sorted.{IsStrictlyIncreasing}
@@ -30,7 +30,7 @@ open_set p b is some = record {
   are_candidates = All-from_contains (Contains p.candidates) (with_nodes b.free b.inside) (λ k c. open_candidate p b k is c);
 }
 
--- they lack nothing where no length is limited
+-- they are feasible for each commodity where no length is limited
 pub never_blocked : (p : Problem) (b : Branching) → p.longest ≡ None → 1 ≤ length b.inside + length b.free → blocked_end p b ≡ None
 unfolding blocked_end lacking all_open
 never_blocked p b any some =
@@ -38,7 +38,7 @@ never_blocked p b any some =
     let none = lacked_none p hubs (commodities p.size) (some_serves p hubs any (omega (arith, some, length_with_nodes b.free b.inside))) in
     rw none refl
 
--- what is told of them is the line of the end
+-- the commodity that is returned for them gives the line of the end
 pub block_line : (p : Problem) (b : Branching) (told : Option (ℕ × ℕ)) → told ≡ lacking p (all_open b)
     → option_map (λ (c : ℕ × ℕ). no_route c ∷ []) told ≡ option_map preorder (blocked_end p b)
 unfolding blocked_end

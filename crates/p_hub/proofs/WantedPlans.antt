@@ -1,4 +1,5 @@
--- The plans of a branch with just so many hubs: the bound by that number, and those of its children, are within what they cost.
+-- Plans with exactly n hubs cost at least the bound of their branch for n hubs. The same holds for the
+-- children of the branch.
 use Rattle.std.proofs.Common.{◌≡◌, ℕ, ◌≤◌, List, length, All, Contains, ap, ◌∙◌, arith}
 use Rattle.std.proofs.lemmas.Int.{ints}
 use Rattle.hub_spec.specs.Problem.{Problem, IsProblem}

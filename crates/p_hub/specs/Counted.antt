@@ -1,15 +1,15 @@
--- The bound of a branch where just so many hubs are wanted, under weights on the first cuts of a list.
+-- The bound of a branch for exactly n hubs, under weights on the first cuts of a list.
 use Rattle.std.specs.Prelude.{ℕ, ℤ, pos, List, map, slice_index_or, Option, Some, None}
 use Rattle.std.specs.Ordering.{int_cmp}
 use Rattle.std.specs.List.Sorted.{IsPermutation, IsSorted}
 use Rattle.hub_spec.specs.Trees.{Branching, counted_bound}
 use Rattle.leaf_bound.specs.Bounds.{Weighting, weighted_total, gain_of, bound_of}
 
--- the bound of a branch in which n hubs are wanted
+-- the bound of a branch for exactly n hubs
 abbrev pub counted_of : ℕ → Weighting → Branching → ℤ
 counted_of n m b = counted_bound n (weighted_total m) (gain_of m) b
 
--- the bound of a branch by the number of hubs that is wanted, if one is
+-- the bound of a branch by the wanted number of hubs, if there is one
 abbrev pub bound_for : Option ℕ → Weighting → Branching → ℤ
 bound_for None m b = bound_of m b
 bound_for (Some n) m b = counted_of n m b

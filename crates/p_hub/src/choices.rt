@@ -16,7 +16,7 @@ use hub_model::{Branch, Instance, TreeLine};
 use leaf_bound::{Weighting, bound};
 use std::alloc::{AllocError, Global};
 
-/// The hubs of the first incumbent: all candidates, or as many of the least as are wanted.
+/// The hubs of the first incumbent: all candidates, or the first p where exactly p hubs are wanted.
 pub fn first_hubs(instance: &Instance) -> &[u32]
     ensures problem { IsProblem instance.now }
     ensures first { result.now ≡ first_hubs instance.now }
@@ -28,8 +28,8 @@ pub fn first_hubs(instance: &Instance) -> &[u32]
     }
 }
 
-/// The line of a branch that has no hub set because of its numbers of hubs and free nodes, if it has none: it cannot have
-/// as many hubs as are wanted, or any.
+/// The line of a branch that has no hub set because of its numbers of hubs and free nodes, if it has none. For exactly
+/// p hubs it has more than p hubs inside, or fewer than p open nodes. For any number of hubs it has no open node.
 pub fn end_by_number(wanted: Option<u32>, branch: &Branch) -> Option<TreeLine>
     ensures { option_map (λ line. tree_line_of line ∷ []) result ≡ option_map preorder (barren_end wanted branch.now) }
 {
@@ -51,8 +51,9 @@ pub fn end_by_number(wanted: Option<u32>, branch: &Branch) -> Option<TreeLine>
     }
 }
 
-/// The only hub set of a branch, if it has just one: its hubs where they are as many as are wanted, all its open nodes
-/// where these are, or where any number will do its hubs once no node is free. For a branch that ends it may be empty.
+/// The only hub set of a branch, if it has just one. For exactly p hubs it is the branch's hubs where they are p, or
+/// all its open nodes where those are p. For any number of hubs it is the branch's hubs once no node is free. For a
+/// branch that ends it may be empty.
 pub fn only_set(
     alloc: Global,
     instance: &Instance,
@@ -82,8 +83,8 @@ pub fn only_set(
     }
 }
 
-/// The bound of the branch, which has room, under these weights, in 10^-12, times the denominator: by the number of hubs
-/// that is wanted, if one is.
+/// The bound of the branch, which has room, under these weights, in 10^-12, times the denominator. It is that for the
+/// wanted number of hubs, if there is one.
 pub fn bound_by_number(instance: &Instance, weighting: &Weighting, branch: &Branch) -> i128
     requires numbers { AreWeightingNumbers weighting.now }
     requires nodes { IsBranchWithin weighting.now branch.now }

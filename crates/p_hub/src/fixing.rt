@@ -12,7 +12,7 @@ use leaf_bound::{Side, Weighting, threshold, write_gains_and_base};
 use std::alloc::{AllocError, Global};
 
 /// Variable fixing for exactly `p` hubs: the free candidates of the branch that these weights decide, ascending, each
-/// with the side that stays.
+/// with the side to which it is fixed.
 ///
 /// `target` is the cutoff, in 10^-12. The branch itself is not fathomed at it, and each of its children has room for
 /// `p` hubs.

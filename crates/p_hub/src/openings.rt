@@ -19,8 +19,8 @@ pub fn all_open(alloc: Global, branch: &Branch) -> Result<Vec<u32>, AllocError>
     Ok(open)
 }
 
-/// The line of the first commodity that the hubs of the branch lack with all its free nodes, if they lack one. The
-/// branch has no end by its numbers. Where no length is limited they lack none, and it takes no memory.
+/// The line of the first commodity for which all open nodes of the branch together are infeasible, if there is one. The
+/// branch has no end by its numbers. Where no length is limited there is no such commodity, and it takes no memory.
 pub fn blocked_line(
     alloc: Global,
     instance: &Instance,

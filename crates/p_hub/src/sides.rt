@@ -6,7 +6,7 @@ ghost use Rattle.p_hub.specs.Fixing.{side_by};
 
 use leaf_bound::Side;
 
-/// What tells the sides of the free candidates of a branch.
+/// The numbers that decide the free candidates of a branch.
 #[derive(Clone, Copy)]
 pub(crate) struct Margins {
     /// The bound of the branch.
@@ -15,12 +15,12 @@ pub(crate) struct Margins {
     pub(crate) last: i128,
     /// The least gain of a free node that it does not count.
     pub(crate) next: i128,
-    /// What a bound has to be above to close the target.
+    /// What a bound has to exceed to fathom at the cutoff.
     pub(crate) threshold: i128,
 }
 
 impl Margins {
-    /// The side of the free candidate with this gain that stays, if one does.
+    /// The side to which the free candidate with this gain is fixed, if it is.
     pub(crate) fn side_of(&self, gain: i128) -> Option<Side>
         requires bound { IsWithin most_bound self.now.bound }
         requires last { IsWithin most_gain self.now.last }

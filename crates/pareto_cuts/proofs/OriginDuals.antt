@@ -54,7 +54,7 @@ alone_twice s first t j is place =
     let none = is.legs.trunk t t stop stop ∙ ap (λ (d : ℕ). s.problem.trunk * d) itself in
     omega (arith, none)
 
--- the least values over the legs are the least that is asked
+-- the least values over the legs are the least that meet what the ways ask
 least_asked : (s : SetSeparation) (first : List ℕ) (a t j v : ℕ) (values : ℕ → ℕ) → IsSeparation s → t < length s.order
     → IsLeastValue s.legs first a values t j v → IsLeastAsked s.hubs s.order Any (λ k m. way s.legs first k m j) a values t v
 least_asked s first a t j v values is place least = record {

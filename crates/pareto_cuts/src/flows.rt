@@ -36,7 +36,7 @@ pub(crate) fn weighted(flows: &[u64], lengths: &[u64]) -> u128
     sum
 }
 
-/// Adds to the load of each node of the order what its row of values, weighted by the flows, comes to.
+/// Adds to the load of each node of the order the sum of its row of values, weighted by the flows.
 pub(crate) fn add_rows(order: &[u32], flows: &[u64], values: &[u64], loads: &mut [u128])
     requires nodes { All (λ k. k < length loads.old) order.now }
     requires once { (s t : ℕ) → s < t → t < length order.now → slice_index order.now s ≢ slice_index order.now t }

@@ -1,11 +1,12 @@
-//! The Benders cut of a hub set: minimal duals of all commodities, strengthened in the order of a point, with their sums.
+//! The Benders cut of a hub set: minimal duals of all commodities, strengthened in the order of a point, with their
+//! sums.
 //!
-//! All commodities of an origin are worked out together, by unit of flow (`unit_duals`): what hangs on the set and the
-//! order alone is worked out once (`set_tables`), a `Separation` is all that an origin's duals hang on, and
-//! `OriginScratch` is what they are worked out in, one for each worker. `sums` adds them up, and `DualBuffer` lends one
-//! of them as a certificate's line has it. `Scratch` has one of each, for a single thread: it serves one commodity
-//! (`strong_dual_in`), or all commodities of one origin after another. `orders` has the order of the candidates outside
-//! a set by a point. Costs are in 10^-12, lengths by unit of flow in 10^-6. Nodes are `u32`, counted from 0.
+//! All commodities of an origin are computed together, by unit of flow (`unit_duals`). What depends only on the set
+//! and the order is computed once (`set_tables`). A `Separation` has all that an origin's duals depend on.
+//! `OriginScratch` is the workspace for them, one for each worker. `sums` adds them up, and `DualBuffer` holds one of
+//! them as a certificate's line has it. `Scratch` has one of each, for a single thread: for one commodity
+//! (`strong_dual_in`), or for all commodities of one origin after another. `orders` has the order of the candidates
+//! outside a set by a point. Costs are in 10^-12, lengths by unit of flow in 10^-6. Nodes are `u32`, counted from 0.
 #![tactic(auto)]
 
 mod buffers;

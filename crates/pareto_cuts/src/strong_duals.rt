@@ -53,7 +53,7 @@ pub fn strong_dual(
     lent_dual(alloc, &scratch)
 }
 
-/// The dual that the scratch lends, in a type of its own.
+/// A copy of the dual in the workspace, in a type of its own.
 pub(crate) fn lent_dual(alloc: Global, scratch: &Scratch) -> Result<Dual, AllocError>
     ensures { IfOk result (λ d. d ≡ scratch.now.dual) }
 {

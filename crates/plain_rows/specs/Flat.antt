@@ -1,6 +1,7 @@
--- The rows of a table as they are kept, one after the other, and what a pivot writes of them. A row has a number above 0 in a
--- basic column of its own, or for the objective row in v's, and 0 in those of the others. So of each row only the numbers of the
--- columns outside the basis are kept, in the order in which these columns stand, its right side, and its own number.
+-- The rows of a table as they are kept, one after the other, and what a pivot writes of them. A row has a number
+-- above 0 in a basic column of its own, or for the objective row in v's, and 0 in those of the others. So of each row
+-- only the numbers of the columns outside the basis are kept, in the order in which these columns stand, its right
+-- side, and its own number.
 use Rattle.std.specs.Prelude.{◌≡◌, ◌≢◌, ℕ, ◌+◌, ◌*◌, ◌^◌, ◌<◌, ◌≤◌, ◌==◌, if◌then◌else◌, length, map, true, List, [], ◌∷◌, ◌++◌, slice_index, slice_set, ℤ, ◌<ℤ◌, pos}
 use Rattle.std.specs.List.{range_with_len}
 use Rattle.frac_rows.specs.Divisors.{divisor_of, reduced}
@@ -93,7 +94,7 @@ pub record AreFirst (variables : ℕ) (given rights : List ℤ) (n : ℕ) (numbe
 
 -- ---- after a pivot
 
--- what is taken from the other rows: the own column of the row comes to stand at the place c, and no longer is its own
+-- what is taken from the other rows: the own column of the row moves to the place c, and no longer is its own
 abbrev pub base_of : ℕ → List ℤ → ℕ → List ℤ
 base_of width row c = slice_set (slice_set row c (number row (width + 1))) (width + 1) (pos 0)
 

@@ -75,7 +75,7 @@ fn entering(numbers: &[i64], outside: &[u32], basis: &[u32]) -> Option<usize>
     least_negative(part(numbers, outside.len() + 2, basis.len()), outside)
 }
 
-// Writes what is taken from the other rows: the row's own column comes to stand at the place `c`, and no longer is its own.
+// Writes what is taken from the other rows: the row's own column moves to the place `c`, and no longer is its own.
 fn write_base(row: &[i64], c: usize, base: &mut [i64])
     requires place { c + 2 < length row.now }
     requires room { length base.old ≡ length row.now }
@@ -109,8 +109,9 @@ fn next_rows(
     Ok(())
 }
 
-// Writes the row `i` after the pivot. Nothing is taken from a row with 0 at the place, and what it is multiplied by is taken
-// out again by the division, so it stays. In the pivot's row its own column and the one that enters change places.
+// Writes the row `i` after the pivot. Nothing is taken from a row with 0 at the place, and what it is multiplied by
+// is taken out again by the division, so it stays. In the pivot's row its own column and the one that enters change
+// places.
 fn row_after(
     numbers: &[i64],
     places: usize,

@@ -21,7 +21,7 @@ duals_are d [] (dual ∷ duals) are = absurd are
 duals_are d (c ∷ cs) [] are = absurd are
 duals_are d (c ∷ cs) (dual ∷ duals) are = ap₂ (λ (x : Prices) (xs : List Prices). x ∷ xs) are.0 (duals_are d cs duals are.1)
 
--- ---- what is made of each kept cut
+-- ---- what is made of each stored cut
 
 made_at : {X : Type 0} (f : Kept → X) (kept : List Kept) (x : ℕ) (d : X) (one : Kept) → x < length kept → one ≡ kept_at kept (x + 1)
     → f one ≡ get_or (map f kept) x d

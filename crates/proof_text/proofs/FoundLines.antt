@@ -65,7 +65,7 @@ numbered v p kept = enumerate_from 1 (map (marked_cut v p) kept)
 pub length_numbered : (v : ℕ) (p : Problem) (kept : List Kept) → length (numbered v p kept) ≡ length kept
 length_numbered v p kept = length-enumerate_from 1 (map (marked_cut v p) kept) ∙ length-map kept (marked_cut v p)
 
--- the kept cut of the number that is one above the place
+-- the stored cut whose number is one above the index
 pub same_place : (kept : List Kept) (x : ℕ) → kept_at kept (x + 1) ≡ get_or kept x (by_set [] [])
 same_place kept x =
     let place : (x + 1) - 1 ≡ x = omega arith in

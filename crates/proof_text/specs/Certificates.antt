@@ -9,7 +9,7 @@ use Rattle.cut_pool.specs.Kept.{Kept, kept_mark, IsKeptFor}
 use Rattle.cut_pool.specs.Findings.{lines_of, proof_of}
 use Rattle.cut_pool.specs.declared.found.Found.{Found}
 
--- the mark that a text of the version says of a kept cut: only the third says marks
+-- the mark that a text of the version states for a stored cut: only the third states marks
 abbrev pub mark_said : ℕ → Kept → Option Mark
 mark_said version kept = if nat_eq version 3 then kept_mark kept else None
 
@@ -22,8 +22,8 @@ abbrev pub IsCertificateOf : ℕ → Problem → Found → Stated → Type 0
 IsCertificateOf version p found k =
     (tree : Tree) → lines_of found.tree.items ≡ preorder tree → k ≡ stated_by version p found tree
 
--- what is found can be stated: its cuts fit the problem, its lines are those of a tree, and with that tree it is within the
--- ranges of a certificate of the second version
+-- What is found can be stated. Its cuts fit the problem, and its lines are those of a tree. With that tree it is
+-- within the ranges of a certificate of the second version.
 pub record CanBeStated (p : Problem) (found : Found) : Type 0 where
   pub fit : All (IsKeptFor p) found.cuts.cuts
   pub tree : Tree

@@ -1,4 +1,4 @@
--- The cuts of a finding as their lines are worked out by places.
+-- The lines of the cuts of a finding by places. A place is one origin of one cut.
 use Rattle.std.specs.Prelude.{ℕ, ◌+◌, ◌*◌, ◌/◌, ◌≤◌, List, length, All, Option, MatchOption}
 use Rattle.hub_spec.specs.Limits.{most_nodes, most_cuts}
 use Rattle.cert_spec.specs.Lines.{Item}
@@ -19,7 +19,7 @@ pub record AreLines (l : CutLines) : Type 0 where
 abbrev pub place_count : CutLines → ℕ
 place_count l = length l.cuts.now.cuts * l.instance.now.size
 
--- the kept cut of the place
+-- the stored cut of the place
 abbrev pub cut_of : CutLines → ℕ → Kept
 cut_of l t = kept_at l.cuts.now.cuts (t / l.instance.now.size + 1)
 
@@ -27,7 +27,7 @@ cut_of l t = kept_at l.cuts.now.cuts (t / l.instance.now.size + 1)
 abbrev pub items_of : CutLines → ℕ → List Item
 items_of l t = place_items (version_number l.version) l.instance.now l.cuts.now.cuts t
 
--- the lender is for the instance, and ready for the cut of this number, if there is one
+-- the workspace is for the instance, and ready for the cut of this number, if there is one
 pub record Lends (l : CutLines) (cut : Option ℕ) (s : LenderState) : Type 0 where
   pub lender : IsLenderFor l.instance.now s
   pub ready : MatchOption cut (Unit {0}) (λ c. IsReady l.instance.now (kept_at l.cuts.now.cuts c) s)

@@ -13,7 +13,7 @@ pub record IsStretch (s : Stretch) : Type 0 where
   pub lines : AreLines s.lines.now
   pub within : s.first + s.count ≤ place_count s.lines.now
 
--- a worker's lender serves the lines
+-- a worker's workspace fits the lines
 abbrev pub Serves : Stretch → PlaceScratch → Type 0
 Serves s scratch = Lends s.lines.now scratch.cut scratch.lender
 

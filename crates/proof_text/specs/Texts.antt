@@ -61,11 +61,11 @@ stretch_items version p cuts first count = flat_map (place_items version p cuts)
 
 -- ---- all lines
 
--- a kept cut, with the mark that the version says of it
+-- a stored cut, with the mark that the version states for it
 abbrev pub marked_cut : ℕ → Problem → Kept → Cut × Option Mark
 marked_cut version p kept = (kept_cut p kept, mark_said version kept)
 
--- the lines of the kept cuts
+-- the lines of the stored cuts
 abbrev pub kept_items : ℕ → Problem → List Kept → List Item
 kept_items version p cuts = cuts_items version p.size 1 (map (marked_cut version p) cuts)
 

@@ -51,7 +51,7 @@ fn stated_cuts(
     lent_cuts(alloc, instance, cuts, &mut lender)
 }
 
-// Each cut, with its duals, which the lender makes.
+// Each cut, with its duals, which are computed in the workspace.
 fn lent_cuts(
     alloc: Global,
     instance: &Instance,

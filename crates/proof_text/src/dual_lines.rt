@@ -55,8 +55,8 @@ pub(crate) fn put_kept_duals<K: Sink>(
     Ok(())
 }
 
-/// Puts the lines of the duals of the commodities from `i`, each with its proof where the version says a mark of the cut. The
-/// lender stays ready for the cut.
+/// Puts the lines of the duals of the commodities from `i`. Each has its proof where the version states a mark of the
+/// cut. The workspace stays ready for the cut.
 pub(crate) fn put_origin<K: Sink>(
     cut: &NumberedCut<'_>,
     i: u32,

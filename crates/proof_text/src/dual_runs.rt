@@ -15,7 +15,7 @@ use hub_model::Instance;
 
 /// Puts a line for each run of equal duals of the commodities from `i`. It takes no memory.
 ///
-/// The lender holds the dual of the run, and the next one is compared with it.
+/// The workspace holds the dual of the run, and the next one is compared with it.
 pub(crate) fn put_runs<K: Sink>(
     instance: &Instance,
     kept: &KeptCut,

@@ -1,16 +1,18 @@
 //! Writes the certificate of what a search found, by one worker or several, or makes it as a value.
 //!
-//! The duals of a stored cut are computed again, one at a time (`dual_lender`). [`write_found`] writes the text: on one
-//! thread, or by workers with a lender each, which write the texts of some origins of some cuts. [`certificate_of`] makes
-//! the whole certificate with all duals, for callers that read it again. Both serve each version of the text: from the
-//! second on equal neighbours of one origin are one line; in the third Pareto-optimal cuts are marked, with a line for each
-//! dual and its proof on the next. [`found_text_is_certificate`] says that the text is that certificate's, and
-//! [`stated_holds`] that what it states holds. Costs are in 10^-12.
+//! The duals of a stored cut are computed again, one at a time (`dual_lender`). [`write_found`] writes the text, on
+//! one thread or by workers. Each worker has a workspace, and writes the texts of some origins of some cuts.
+//! [`certificate_of`] makes the whole certificate with all duals, for callers that read it again.
 //!
-//! In order: `marks` (those of a text), `numbered` (a cut, as its lines are written), `dual_runs`, `proved_duals` and
-//! `dual_lines` (the lines of a cut and of its duals), `places` (the lines of one origin of one cut), `memory_texts` (a text
-//! in memory), `stretches` (the work of a worker), `together` (the lines of all cuts by workers), `headings` (the first
-//! lines), `written` (the text), `certificates` (the value), `laws`.
+//! Both serve each version of the text. From the second on, equal neighbours of one origin are one line. In the third,
+//! Pareto-optimal cuts are marked, with a line for each dual and its proof on the next. [`found_text_is_certificate`]
+//! says that the text is that certificate's, and [`stated_holds`] that what it states holds. Costs are in 10^-12.
+//!
+//! The lines of a cut, in order: `marks` (those of a text), `numbered` (a cut, as its lines are written), `dual_runs`,
+//! `proved_duals`, `dual_lines` (the lines of a cut and of its duals). The lines of all cuts: `places` (the lines of
+//! one origin of one cut), `memory_texts` (a text in memory), `stretches` (the work of a worker), `together` (the
+//! lines of all cuts by workers). The whole: `headings` (the first lines), `written` (the text), `certificates` (the
+//! value), `laws`.
 #![tactic(auto)]
 
 mod certificates;

@@ -61,7 +61,7 @@ impl CutLines<'_> {
         self.cuts.cut(self.cut_number(place))
     }
 
-    /// Makes the lender ready for the cut of the place.
+    /// Makes the workspace ready for the cut of the place.
     pub(crate) fn begin(&self, place: u64, lender: &mut DualLender)
         requires lines { AreLines self.now }
         requires place { place < place_count self.now }
@@ -71,7 +71,7 @@ impl CutLines<'_> {
         lender.begin(self.instance, self.kept(place));
     }
 
-    /// Puts the lines of the place. The lender stays ready for its cut.
+    /// Puts the lines of the place. The workspace stays ready for its cut.
     pub(crate) fn put_place<K: Sink>(
         &self,
         place: u64,

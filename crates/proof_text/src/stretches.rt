@@ -26,7 +26,7 @@ pub(crate) struct Stretch<'a> {
 #[derive(Drop)]
 pub(crate) struct PlaceScratch<'a> {
     lender: DualLender<'a>,
-    // The number of the cut that the lender is ready for.
+    // The number of the cut that the workspace is ready for.
     cut: Option<u64>,
 }
 
@@ -59,7 +59,7 @@ impl<'a> Job<Vec<u8>> for Stretch<'a> {
 }
 
 impl PlaceScratch<'_> {
-    // Makes the lender ready for the cut of the place, where it is not yet.
+    // Makes the workspace ready for the cut of the place, where it is not yet.
     fn make_ready(&mut self, lines: &CutLines, place: u64)
         requires lines { AreLines lines.now }
         requires place { place < place_count lines.now }
@@ -75,7 +75,7 @@ impl PlaceScratch<'_> {
     }
 }
 
-// The text of the place. The lender stays ready for its cut.
+// The text of the place. The workspace stays ready for its cut.
 fn place_text(
     alloc: Global,
     lines: &CutLines,
@@ -95,7 +95,7 @@ fn place_text(
     }
 }
 
-// Writes the text of the place. The lender stays ready for its cut.
+// Writes the text of the place. The workspace stays ready for its cut.
 fn write_place<K: Sink>(
     lines: &CutLines,
     place: u64,

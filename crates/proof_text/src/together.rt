@@ -25,12 +25,12 @@ pub struct Workers<'a, R> {
     pub count: u32,
 }
 
-// How many commodities a stretch has at most, where it has more than one place: so its texts take little memory, and the
-// work is worth the start of the workers.
+// The most commodities of a stretch with more than one place. So its texts take little memory, and the work is worth
+// the start of the workers.
 const COMMODITIES: u32 = 16_384;
 
-/// Puts the lines of the cuts. Their texts are worked out by the workers, a stretch of places at a time; where
-/// memory runs out, the lender works out the stretch on this thread.
+/// Puts the lines of the cuts. The workers make their texts, a stretch of places at a time. Where memory runs out,
+/// this thread makes the stretch in the workspace.
 pub(crate) fn put_cuts_together<'a, R: Threads + Sync, K: Sink>(
     workers: &Workers<R>,
     lines: &'a CutLines<'a>,

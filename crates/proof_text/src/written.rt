@@ -34,9 +34,9 @@ pub struct Finding<'a> {
 /// Writes the certificate of the finding. In the third version Pareto-optimal cuts are marked. It fails only where a
 /// put does.
 ///
-/// Each dual is computed again, by the lender, which is for the instance, or by the workers. The text does not depend
-/// on the number of workers. One worker allocates nothing. Where memory for several runs out, the lender does their
-/// work.
+/// Each dual is computed again, in the workspace, which is for the instance, or by the workers. The text does not
+/// depend on the number of workers. One worker allocates nothing. Where memory for several runs out, this thread does
+/// their work in the workspace.
 pub fn write_found<R: Threads + Sync, K: Sink>(
     workers: &Workers<R>,
     finding: &Finding<'_>,

@@ -8,9 +8,9 @@ use std::thread::Threads;
 
 /// A heuristic at the nodes of a search, one after another.
 ///
-/// A search enters a node and makes ascent passes there, as long as they pay. Then it makes the Benders cut of the
-/// values, or branches. Before it goes into a child it stores the state of the node, and restores it later. It relies
-/// on no returned number, and on no length of a list.
+/// A search enters a node and makes ascent passes there, as long as they pay. Then it makes the Benders cut from the
+/// dual values, or branches. Before it goes into a child it stores the state of the node, and restores it later. It
+/// relies on no returned number, and on no length of a list.
 pub trait Advice {
     /// The unit of the values, in 10^-6 per unit of flow.
     fn unit(&self) -> u64;
@@ -42,7 +42,7 @@ pub trait Advice {
     ) -> Result<bool, AllocError>
         requires { IsSync R.row };
 
-    /// An estimate of the bound of the node by the cut of the values.
+    /// An estimate of the bound that the Benders cut from these dual values gives the node.
     fn bound_hint(&self) -> i128;
 
     /// The values, commodity by commodity, one for each place, in the unit.

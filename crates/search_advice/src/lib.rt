@@ -2,8 +2,8 @@
 //! trusted.
 //!
 //! A search passes its node to [`Advice`], lets it improve its dual values while that pays, and makes the result exact:
-//! the Benders cut of the values, the cost of a hub set. It also takes the candidate to branch on. A bad heuristic
-//! costs time alone. A place is the index of a candidate, from 0; costs are in 10^-12.
+//! the Benders cut from the dual values, and the cost of a hub set. It also takes the candidate to branch on. A bad
+//! heuristic costs time alone. A place is the index of a candidate, from 0; costs are in 10^-12.
 #![tactic(auto)]
 
 mod asking;

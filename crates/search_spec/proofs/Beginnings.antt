@@ -1,4 +1,4 @@
--- A search that begins again: it may begin so, and its given cuts keep their numbers.
+-- A search that begins again: it may begin so, and its imported cuts keep their numbers.
 use Rattle.std.proofs.Common.{◌≡◌, ℕ, ◌+◌, ◌-◌, ◌≤◌, List, [], ◌∷◌, ◌++◌, length, map, get_or, All, Contains, Bool, true, false, not, ◌&&◌, Option, Some, None, is_some, IsSome, IsNone, nat_eq, take, refl, ap, sym, subst, ◌∙◌, eqb-true, true≢false, arith}
 use Rattle.std.specs.Prelude.{IfSome}
 use Rattle.std.specs.List.{AllZip, list_all}
@@ -36,7 +36,7 @@ certificate_start p k range has = record {
   ascend = range.hubs_ascend;
 }
 
--- ---- given cuts
+-- ---- imported cuts
 
 none_reach : (p : Problem) (target : ℕ) (cuts : List Cut) → AllZip (ReachesSet p target) (map (λ (cut : Cut). None) cuts) cuts
 none_reach p target [] = tt
@@ -178,7 +178,7 @@ again_given p parts n start ok all sound is =
     kept_given first.cuts start.cuts (searched p parts n s).state.cuts
     (subst (λ (cs : List Cut). IsKept cs (searched p parts n s).state.cuts) (given_cuts start.cuts first) kept)
 
--- ---- nothing given
+-- ---- nothing imported
 
 given_none : (s : State) → with_given [] s ≡ s
 unfolding with_given

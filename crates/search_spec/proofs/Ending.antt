@@ -1,4 +1,4 @@
--- A round leaves fewer turns than there were at its start, and so the rounds end.
+-- A round leaves fewer node evaluations than there were at its start, and so the rounds end.
 use Rattle.std.proofs.Common.{◌≡◌, ℕ, zero, suc, ◌+◌, ◌-◌, min, ◌<◌, ◌≤◌, Bool, true, false, not, ◌&&◌, nat_lt, List, [], ◌∷◌, ◌++◌, length, Option, Some, None, is_some, if◌then◌else◌, refl, ap, sym, ◌∙◌, true≢false, ltb-true, arith}
 use Rattle.std.proofs.lemmas.Bool.{cond_both, and_parts}
 use Rattle.hub_spec.specs.Problem.{Problem}
@@ -18,14 +18,14 @@ use Rattle.search_spec.proofs.Taking.{for_next, taken_is}
 use Rattle.search_spec.proofs.Rounding.{IsStanding, round_stands, going_when}
 use Rattle.search_spec.proofs.Lessening.{IsKnowing, with_set_knows, with_set_known, same_knows, left_lower, left_both, lines_left, more_turns, free_of, two_least_power, one_left, split_fewer, split_sets, sets_know}
 
--- ---- one turn
+-- ---- one node evaluation
 
--- what is left after an outcome is taken is less than the turns of the node at the start
+-- what is left after an outcome is taken is less than the evaluations of the node at the start
 abbrev Falls : Problem → Parts → Option ℕ → Pending → State → State → Outcome → Type 0
 Falls p parts n x start s o =
     turns_left parts (taken p parts n x o s).state (taken p parts n x o s).places + 1 ≤ node_turns parts start x
 
--- each node has one turn at least
+-- each node has one evaluation at least
 none_of : (o : Option (List ℕ)) → is_some o ≡ false → o ≡ None
 none_of None e = refl
 none_of (Some set) e = absurd (true≢false e)
@@ -48,7 +48,7 @@ end_falls : (p : Problem) (parts : Parts) (n : Option ℕ) (x : Pending) (start 
 unfolding taken
 end_falls p parts n x start s t least = omega (arith, lines_left parts s (preorder t), least)
 
--- the turns of a node in which the set alone is left
+-- the evaluations of a node in which the set alone is left
 set_turns : (parts : Parts) (s : State) (x : Pending) (set : List ℕ) → parts.only x.branch ≡ Some set
     → node_turns parts s x ≡ (if is_some (number_in_pool s set) then 1 else 2)
 unfolding node_turns
@@ -176,7 +176,7 @@ here_lower parts start left x rest s here after falls knows is =
       less = λ some going pending. omega (arith, both, lower, falls, most, whole);
     }
 
--- nothing has its turn
+-- no node is evaluated
 none_lower : (parts : Parts) (start : State) (left : ℕ) (places : List Place) (s : State) → IsKnowing start s
     → (1 ≤ left → is_stopped s ≡ false → has_pending places ≡ true → ⊥) → IsLower parts start left places s (record { state = s; places = places })
 none_lower parts start left places s knows never = record {

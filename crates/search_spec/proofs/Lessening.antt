@@ -1,4 +1,4 @@
--- Each round leaves fewer turns, so the rounds end.
+-- Each round leaves fewer node evaluations, so the rounds end.
 use Rattle.std.proofs.Common.{◌≡◌, ℕ, zero, suc, ◌+◌, ◌-◌, ◌*◌, ◌^◌, min, ◌<◌, ◌≤◌, Bool, true, false, cond, nat_lt, List, [], ◌∷◌, ◌++◌, length, map, Contains, Option, Some, None, is_some, option_map, position, bytes_eq, if◌then◌else◌, refl, ap, sym, subst, ◌∙◌, true≢false, pow_pos, lt-ltb, ltb-true, arith}
 use Rattle.std.specs.List.{position_or_len}
 use Rattle.std.proofs.lemmas.List.Recursion.{is_position_or_len}
@@ -78,7 +78,7 @@ with_set_known parts set order s =
     cond_both (is_some (number_in_pool s set)) s (separated parts set order s) (λ (t : State). is_some (number_in_pool t set) ≡ true) (λ e. e)
     (λ e. separated_known parts set order s)
 
--- ---- turns that are left
+-- ---- node evaluations that are left
 
 alone_turns : (s t : State) (set : List ℕ) → IsKnowing s t
     → (if is_some (number_in_pool t set) then 1 else 2) ≤ (if is_some (number_in_pool s set) then 1 else 2)
@@ -143,11 +143,11 @@ any_turns parts s x =
 
 -- ---- a split
 
--- the turns left after a step, of at most so many
+-- the node evaluations left after a step, of at most so many
 abbrev LeavesTurns : Parts → ℕ → Standing → Type 0
 LeavesTurns parts most t = turns_left parts t.state t.places + 3 ≤ most
 
--- the same with three turns less
+-- the same with three node evaluations less
 abbrev LeavesFewer : Parts → ℕ → Standing → Type 0
 LeavesFewer parts most t = turns_left parts t.state t.places + 6 ≤ most
 

@@ -15,7 +15,7 @@ use Rattle.search_spec.specs.Lasting.{turns_left}
 use Rattle.search_spec.proofs.Rounding.{IsStanding, round_stands, going_when}
 use Rattle.search_spec.proofs.Ending.{round_falls}
 
--- ---- a set that is asked for
+-- ---- a set that a node asks for
 
 pub with_known : (parts : Parts) (set order : List ℕ) (s : State) → is_some (number_in_pool s set) ≡ true → s ≡ with_set parts set order s
 unfolding with_set
@@ -80,7 +80,8 @@ pub split_full : (p : Problem) (parts : Parts) (n : Option ℕ) (advice : Advice
 unfolding split_up
 split_full p parts n advice f rest x s more full = rw (more, full) refl
 
--- by the rule, where no number of hubs is wanted, more sets than one are left where a node is free, as that of a fixing is
+-- by the rule, where no number of hubs is wanted, more sets than one are left where a node is free, as that of a fixing
+-- is
 pub more_free : (p : Problem) (advising : Advising) (b : Branching) (k : ℕ) → p.wanted ≡ None → Contains b.free k
     → is_some ((rule_parts p advising).only b) ≡ false
 unfolding rule_parts only_set all_decided
@@ -109,7 +110,7 @@ turned_stopped p parts n start left (line l ∷ rest) s e =
 turned_stopped p parts n start zero (open_at x ∷ rest) s e = refl
 turned_stopped p parts n start (suc left) (open_at x ∷ rest) s e = rw e refl
 
--- nor does one in which no turn is left
+-- nor does one in which no node evaluation is left
 pub turned_none : (p : Problem) (parts : Parts) (n : Option ℕ) (start : State) (places : List Place) (s : State)
     → turns_taken p parts n start 0 places s ≡ record { state = s; places = places }
 unfolding turns_taken
@@ -139,7 +140,7 @@ rounds_more : (more : ℕ) (p : Problem) (parts : Parts) (n : Option ℕ) (t : S
 unfolding rounds
 rounds_more more p parts n t e = cond-true (goes_on t) (rounds more p parts n (next_round p parts n t)) t e
 
--- the number of rounds does not matter, as long as the turns that are left are not more
+-- the number of rounds does not matter, as long as the node evaluations that are left are not more
 pub rounds_same : (more other : ℕ) (p : Problem) (parts : Parts) (n : Option ℕ) (b : Branching) (made : ℕ) (t : Standing) → AreSound p parts
     → IsStanding p n b made t → turns_left parts t.state t.places ≤ more → turns_left parts t.state t.places ≤ other
     → rounds more p parts n t ≡ rounds other p parts n t

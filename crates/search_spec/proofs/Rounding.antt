@@ -35,7 +35,7 @@ within_twice (Some n) before made after one two = λ within. two (one within)
 not_both : {G : Type 0} (s : State) → is_stopped s ≡ false → is_stopped s ≡ true → G
 not_both s going stopped = absurd (true≢false (sym stopped ∙ going))
 
--- nothing has its turn
+-- no node is evaluated
 none_turned : (p : Problem) (n : Option ℕ) (first last : List Branching) (places : List Place) (start s : State) → IsState p s
     → IsNext p start s → Leads p start first places last → HasTurned p n first last places s (record { state = s; places = places })
 none_turned p n first last places start s ok next leads = record {
@@ -62,7 +62,7 @@ line_turned p n b l more last rest start s after next leads is = record {
   room = λ going stopped. omega (arith, is.room going stopped, line_room p start b l more leads.0);
 }
 
--- what comes after a turn
+-- what comes after a node evaluation
 here_turned : (p : Problem) (n : Option ℕ) (b : Branching) (more last : List Branching) (rest : List Place) (x : Pending) (s : State) (here after : Standing)
     → is_stopped s ≡ false → x.branch ≡ b → HasTaken p n x.branch s here → HasTurned p n more last rest here.state after
     → HasTurned p n (b ∷ more) last (open_at x ∷ rest) s (record { state = after.state; places = here.places ++ after.places })

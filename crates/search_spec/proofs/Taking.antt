@@ -81,7 +81,7 @@ end_taken p n b s t ok going is = record {
   room = not_now s s refl going;
 }
 
--- ---- a set that is asked for
+-- ---- a set that a node asks for
 
 pub record IsWithSet (p : Problem) (s t : State) : Type 0 where
   pub next : IsNext p s t

@@ -1,4 +1,4 @@
--- A node's turn: its outcome is sound for the state as the round begins.
+-- A node evaluation: its outcome is sound for the state as the round begins.
 use Rattle.std.proofs.Common.{◌≡◌, ℕ, true, not, ◌&&◌, nat_lt, List, Option, Some, None, is_some, if◌then◌else◌, refl}
 use Rattle.std.proofs.lemmas.Bool.{cond_both}
 use Rattle.hub_spec.specs.Problem.{Problem}
@@ -32,7 +32,7 @@ pub record IsSoundEnd (p : Problem) (s : State) (b : Branching) (t : Tree) : Typ
   pub listed : AreListed t
   pub sound : IsSound p s.cuts (answer s) b t
 
--- a hub set, of as many hubs as are wanted, with an order, and weights with which the node may be searched
+-- a wanted hub set with an order, and weights with which the node may be searched
 pub record IsSoundAsk (p : Problem) (s : State) (b : Branching) (set order : List ℕ) (w : List (ℕ × ℕ)) : Type 0 where
   pub is_set : IsWantedSet p set
   pub is_order : IsOrder p set order
@@ -48,7 +48,7 @@ IsFor p s b (ends t) = IsSoundEnd p s b t
 IsFor p s b (asks set order w more) = IsSoundAsk p s b set order w
 IsFor p s b (splits w fs advice) = IsSoundSplit p s b w fs
 
--- ---- the turn
+-- ---- the evaluation
 
 end_is : (p : Problem) (s : State) (b : Branching) (t : Tree) → IsEnd p b t → IsSoundEnd p s b t
 end_is p s b t end = record { one_line = end.one_line; listed = end.listed; sound = end.sound s.cuts (answer s) }

@@ -34,7 +34,7 @@ root_stands p n s ok start = record {
   room = λ h. absurd (true≢false (sym h ∙ start_going p s start));
 }
 
--- the turns that are left at the root
+-- the node evaluations that are left at the root
 pub root_turns : (p : Problem) (parts : Parts) (s : State) → turns_left parts s (at_root p s).places ≤ turns_of (length p.candidates)
 root_turns p parts s = omega (arith, one_left parts s (fresh (root p) []), any_turns parts s (fresh (root p) []))
 

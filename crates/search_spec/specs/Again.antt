@@ -1,4 +1,4 @@
--- A search that begins again: with cuts that are given, beside its own, and with hubs that are tried first.
+-- A search that begins again: with imported cuts, beside its own, and with hubs that are tried first.
 use Rattle.std.specs.Prelude.{ℕ, ◌≤◌, List, ◌++◌, length, map, All, Bool, true, not, ◌&&◌, if◌then◌else◌, nat_eq, Option, Some, None, is_some}
 use Rattle.std.specs.List.{list_all}
 use Rattle.std.specs.List.Sorted.{IsStrictlyIncreasing}
@@ -37,12 +37,13 @@ with_given cuts s = record s {
   marks = s.marks ++ map (λ cut. None) cuts;
 }
 
--- there are as many hubs as are wanted, if a number is
+-- the hubs have the wanted number, if a number is wanted
 abbrev pub has_wanted : Option ℕ → List ℕ → Bool
 has_wanted None hubs = true
 has_wanted (Some n) hubs = nat_eq (length hubs) n
 
--- the hubs are to be separated: they are candidates, lack no commodity, are as many as are wanted, and are not in the pool
+-- the hubs are to be separated: they are candidates, feasible for each commodity, of the wanted number,
+-- and not in the pool
 unfoldable pub is_tried : Problem → State → List ℕ → Bool
 is_tried p s hubs = list_all (has_node p.candidates) hubs
     && (not (is_some (lacking p hubs)) && (has_wanted p.wanted hubs && not (is_some (number_in_pool s hubs))))
@@ -51,7 +52,7 @@ is_tried p s hubs = list_all (has_node p.candidates) hubs
 unfoldable pub tried : Problem → Parts → List ℕ → State → State
 tried p parts hubs s = if is_tried p s hubs then separated parts hubs (parts.ascending hubs) s else s
 
--- the state with which a search begins again: as its rule begins, then the given cuts, then the hubs
+-- the state with which a search begins again: as its rule begins, then the imported cuts, then the hubs
 unfoldable pub begun_again : Problem → Parts → Start → State
 begun_again p parts start = tried p parts start.hubs (with_given start.cuts (begun_for p parts p.wanted))
 

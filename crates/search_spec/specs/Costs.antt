@@ -1,4 +1,5 @@
--- What a search costs at most, by what it begins with; each statement is the contract of the public function of its name.
+-- What a search costs at most, by what it begins with; each statement is the contract of the public function of its
+-- name.
 use Rattle.std.specs.Prelude.{ℕ, ◌≤◌, List, take, Option, Some, None}
 use Rattle.hub_spec.specs.Problem.{Problem, IsProblem}
 use Rattle.hub_spec.specs.Plans.{IsHubSet, IsSetCost}
@@ -8,11 +9,11 @@ use Rattle.search_spec.specs.Laws.{IsWantedSet, IsStart, AreSound}
 use Rattle.search_spec.specs.Choices.{begun_for}
 use Rattle.search_spec.specs.Again.{Start, IsStartOf, begun_again}
 
--- where these hubs are a hub set of the problem, as many as are wanted, they cost at least this
+-- where these hubs are a hub set of the problem, of the wanted number, they cost at least this
 abbrev pub IsAtMostOf : Problem → List ℕ → ℕ → Type 0
 IsAtMostOf p hubs c = IsWantedSet p hubs → (cost : ℕ) → IsSetCost p hubs cost → c ≤ cost
 
--- of these candidates as many of the least as are wanted; all, if no number is
+-- the least of these candidates, up to the wanted number; all, if no number is wanted
 abbrev pub least_of : Option ℕ → List ℕ → List ℕ
 least_of None candidates = candidates
 least_of (Some n) candidates = take n candidates

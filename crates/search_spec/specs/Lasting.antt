@@ -1,4 +1,4 @@
--- How long a search by rounds lasts: the most turns that its pending nodes can still have, and the whole search.
+-- How long a search by rounds lasts: the most node evaluations that are left to pending nodes, and the whole search.
 use Rattle.std.specs.Prelude.{ℕ, ◌+◌, ◌-◌, ◌*◌, ◌^◌, min, List, [], ◌∷◌, length, Option, is_some, if◌then◌else◌}
 use Rattle.hub_spec.specs.Problem.{Problem}
 use Rattle.search_spec.specs.States.{State, Parts, Grown, number_in_pool}
@@ -6,12 +6,12 @@ use Rattle.search_spec.specs.Choices.{Advising, rule_parts, begun_for}
 use Rattle.search_spec.specs.Places.{Pending, Place, line, open_at, Standing}
 use Rattle.search_spec.specs.Turns.{on_some, most_waits, rounds, closed_up, grown_of, at_root}
 
--- the most turns of a node that never waited and has so many free nodes, and of all nodes that may come of it: three of
--- its own, and those of two children with one free node less
+-- the most evaluations of a node that never waited and has so many free nodes, and of all nodes that may come of it:
+-- three of its own, and those of two children with one free node less
 abbrev pub turns_of : ℕ → ℕ
 turns_of free = 5 * 2 ^ free - 3
 
--- the most turns that are left to a node and to what may come of it
+-- the most evaluations that are left to a node and to what may come of it
 unfoldable pub node_turns : Parts → State → Pending → ℕ
 node_turns parts s x =
     on_some (parts.only x.branch) (λ set. if is_some (number_in_pool s set) then 1 else 2)

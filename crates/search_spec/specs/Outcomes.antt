@@ -1,4 +1,4 @@
--- A round by the list of its outcomes: all turns first, and then what is taken of them in order.
+-- A round by the list of its outcomes: all node evaluations first, and then what is taken of them in order.
 use Rattle.std.specs.Prelude.{ℕ, zero, suc, List, [], ◌∷◌, ◌++◌, map, Option, if◌then◌else◌}
 use Rattle.hub_spec.specs.Problem.{Problem}
 use Rattle.search_spec.specs.States.{State, Parts, is_stopped}

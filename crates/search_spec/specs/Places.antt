@@ -4,7 +4,7 @@ use Rattle.hub_spec.specs.Trees.{Branching, Tree, branch, leaf, empty, block, co
 use Rattle.search_spec.specs.States.{State, Advice}
 use Rattle.search_spec.specs.Steps.{Side}
 
--- a node that is still to be handled: its branch, its weights, and how often it waited for a set by its advice
+-- a node that is still to be handled: its branch, its weights, and how often it waited for a set by the master's point
 pub record Pending : Type 0 where
   pub branch : Branching
   pub weights : List (ℕ × ℕ)
@@ -15,13 +15,13 @@ pub data Place : Type 0 where
   line : TreeLine → Place
   open_at : Pending → Place
 
--- what a node's turn comes to
+-- the outcome of a node evaluation
 pub data Outcome : Type 0 where
   -- a tree of one line ends it
   ends : (end : Tree) → Outcome
-  -- it asks for the cut of a set over an order, with its weights, and this counts as a wait or not
+  -- it asks for the Benders cut from a set over an order, with its weights, and this counts as a wait or not
   asks : (set : List ℕ) → (order : List ℕ) → (weights : List (ℕ × ℕ)) → (counts : Bool) → Outcome
-  -- it is split, with its weights, its fixings and the advice
+  -- it is split, with its weights, its fixings, and the weights and point of the master
   splits : (weights : List (ℕ × ℕ)) → (fixed : List (ℕ × Side)) → (advice : Advice) → Outcome
 
 -- what a search by rounds has: its state, and the places of its tree in preorder

@@ -9,7 +9,8 @@ use Rattle.search_spec.specs.Outcomes.{outcomes_of, taken_in_order}
 use Rattle.search_spec.specs.Turns.{next_round, goes_on, rounds, at_root}
 use Rattle.search_spec.specs.Lasting.{turns_left, stood, searched_by_rounds}
 
--- so it is of what each search by rounds finds: with any sound parts, whatever number of nodes is allowed, from any start
+-- so it is of what each search by rounds finds: with any sound parts, whatever number of nodes is allowed, from any
+-- start
 abbrev pub OfEachSearch : (Problem → Option ℕ → Grown → Type 0) → Type 0
 OfEachSearch P = (p : Problem) (parts : Parts) (n : Option ℕ) (s : State) → IsProblem p → AreSound p parts
     → IsStart p s → P p n (searched_by_rounds p parts n s)
@@ -39,7 +40,7 @@ RoundEnoughNodesSuffice = OfEachSearch (λ p n g. IsEnough (2 ^ (length p.candid
 abbrev pub RoundCostNeverRises : Type 0
 RoundCostNeverRises = (p : Problem) (parts : Parts) (n : Option ℕ) (s : State) → (searched_by_rounds p parts n s).state.cost ≤ s.cost
 
--- each round leaves fewer turns than there were, so the rounds end
+-- each round leaves fewer node evaluations than there were, so the rounds end
 abbrev pub EachRoundFalls : Type 0
 EachRoundFalls = (p : Problem) (parts : Parts) (n : Option ℕ) (s : State) (m : ℕ) → IsProblem p → AreSound p parts → IsStart p s
     → goes_on (rounds m p parts n (at_root p s)) ≡ true
@@ -51,7 +52,7 @@ abbrev pub RoundsAreOver : Type 0
 RoundsAreOver = (p : Problem) (parts : Parts) (n : Option ℕ) (s : State) → IsProblem p → AreSound p parts → IsStart p s
     → goes_on (stood p parts n s) ≡ false
 
--- a round is all turns by the state at its start, and then what is taken of their outcomes in order
+-- a round is all node evaluations by the state at its start, and then what is taken of their outcomes in order
 abbrev pub RoundIsByOutcomes : Type 0
 RoundIsByOutcomes = (p : Problem) (parts : Parts) (n : Option ℕ) (t : Standing)
     → next_round p parts n t ≡ taken_in_order p parts n (outcomes_of p parts t.state t.places) t.places t.state

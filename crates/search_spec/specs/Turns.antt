@@ -11,19 +11,21 @@ abbrev pub on_some : {A X : Type 0} → Option A → (A → X) → X → X
 on_some None f rest = rest
 on_some (Some a) f rest = f a
 
--- ---- a turn
+-- ---- a node evaluation
 
--- how often a node may ask for a set by its advice
+-- how often a node may ask for a set that the master's point picks
 abbrev pub most_waits : ℕ
 most_waits = 2
 
--- the turn of a node in which just this set is left, by the set's number: a leaf on its cut; with no number it asks for it
+-- the node evaluation where just this set is left, by the set's number: a leaf on its cut;
+-- with no number the node asks for the set
 unfoldable pub turn_alone : Parts → Pending → List ℕ → Option ℕ → Outcome
 turn_alone parts x set (Some c) = ends (leaf denominator (whole_on c))
 turn_alone parts x set None = asks set (parts.ascending set) x.weights false
 
--- the turn of a node in which more sets than one are left: it takes advice, and is a leaf where the better weights close
--- the cost; else it asks for the set that the advice picks, if that is new and it has not waited too often; else it is split
+-- the node evaluation where more sets than one are left. The node is a leaf where the better weights fathom it.
+-- Else it asks for the set that the master's point picks, if that is new and the node has not waited too often.
+-- Else it is split.
 unfoldable pub turn_advised : Problem → Parts → State → Pending → Outcome
 turn_advised p parts s x =
     let b = x.branch in
@@ -35,7 +37,7 @@ turn_advised p parts s x =
     then asks set (parts.falling advice set) best true
     else splits best (fixings p s b best) advice
 
--- the turn of a node, by the state as its round begins
+-- the node evaluation, by the state as its round begins
 unfoldable pub turn : Problem → Parts → State → Pending → Outcome
 turn p parts s x =
     on_some (parts.barren x.branch) ends (on_some (parts.blocked x.branch) ends (on_some (parts.only x.branch)
@@ -100,12 +102,12 @@ taken p parts n x (splits w fs advice) s = split_up p parts n advice fs (waited 
 
 -- ---- rounds
 
--- how many nodes have their turn in a round
+-- how many nodes are evaluated in a round
 abbrev pub most_turns : ℕ
 most_turns = 8
 
--- the first pending nodes have their turn, at most so many, each by the state at the start; their outcomes are taken in
--- order, until the search is stopped
+-- the first pending nodes are evaluated, at most so many, each by the state at the start;
+-- their outcomes are taken in order, until the search is stopped
 unfoldable pub turns_taken : Problem → Parts → Option ℕ → State → ℕ → List Place → State → Standing
 turns_taken p parts n start left [] s = record { state = s; places = [] }
 turns_taken p parts n start left (line l ∷ rest) s =

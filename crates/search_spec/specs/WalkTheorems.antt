@@ -12,7 +12,7 @@ WalkGoesOn = (p : Problem) (cuts : List Cut) (target : ℕ) (first : List Branch
     → Walks p cuts target first lines (b ∷ pending) → IsSoundLine p cuts target b l
     → Walks p cuts target first (lines ++ l ∷ []) (filled b l pending)
 
--- a walk stays one where cuts are added and the target is lowered
+-- a walk stays one where cuts are added and the cutoff is lowered
 abbrev pub WalkStays : Type 0
 WalkStays = (p : Problem) (cuts more : List Cut) (target lower : ℕ) (first : List Branching) (lines : List TreeLine)
     (last : List Branching) → lower ≤ target

@@ -1,4 +1,4 @@
-//! A branching tree as a walk over its lines, for searches whose branching follows no fixed rule.
+//! A branching tree as a walk over its lines, for searches with any branching rule.
 //!
 //! A depth-first search that takes the open child first writes the tree's lines one by one. It holds the pending
 //! branches, the next one first. The definitions stand in `specs/`. There is no code: each function is empty, and its

@@ -107,12 +107,12 @@ more_long kind p kept more set order price cut = ap length cut.entries ∙ lengt
 
 -- ---- what the code has then
 
--- what is told of a success
+-- what holds of a success
 ok_gives : {X Y P : Type 0} (r : Result X Y) → IsOk r → OnOk r P → P
 ok_gives (Ok x) ok told = told
 ok_gives (Err e) ok told = absurd (true≢false (sym ok))
 
--- the entry that was added, with the sums that were told of its cut
+-- the entry that was added, with the sums that were returned for its cut
 pub sums_added : (p : Problem) (kept more : List Entry) (r : Result ℕ Refused) (sums : Sums) (order : List ℕ) (least opening : ℕ)
     → IsProblem p → IsOk r → OnOk r (more ≡ kept ++ entry_of sums order ∷ []) → IsSumsOf p (entry_of sums order)
     → least ≡ sums.total → opening ≡ opening_cost p sums.hubs
@@ -122,7 +122,7 @@ sums_added p kept more r sums order least opening ok succeeds added is total_is 
   cost = sums_cost p sums order least opening ok is total_is opening_is;
 }
 
--- the entry of a core cut, whose set has this cost
+-- the entry of a Pareto-optimal cut, whose set has this cost
 pub core_added : (p : Problem) (kept more : List Entry) (r : Result ℕ MarkedCut) (e : Entry) (set : List ℕ) (price : ℕ) → IsProblem p → IsHubSet p set
     → IsOk r → OnOk r (more ≡ kept ++ e ∷ []) → IsSetCost p set price → IsAdded p kept more e set price
 core_added p kept more r e set price ok is_set succeeds added cost = record {
@@ -130,7 +130,7 @@ core_added p kept more r e set price ok is_set succeeds added cost = record {
   cost = one_set_cost p set price ((parts_of p).cost set) cost ((parts_sound p ok).cost set is_set);
 }
 
--- the cut of the set over the order, where its entry was added
+-- the Benders cut from the hub set over the order, where its entry was added
 pub cut_added : (kind : CutKind) (p : Problem) (kept more : List Entry) (entry : Entry) (set order : List ℕ) (price : ℕ)
     → IsEntryOf kind p set order entry → IsAdded p kept more entry set price → HasCut kind p kept more set order price
 cut_added kind p kept more entry set order price is added = record { entry = entry; entries = added.entries; is = is; cost = added.cost }

@@ -29,7 +29,7 @@ use Rattle.search_steps.specs.Findings.{IsFound}
 abbrev pub start_of : Problem → State
 start_of p = begun_for p (parts_of p) p.wanted
 
--- the problem can be searched: all candidates together lack no commodity
+-- the problem can be searched: all candidates together are feasible for each commodity
 pub record IsSearchable (p : Problem) : Type 0 where
   pub problem : IsProblem p
   pub lacks_none : IsHubSet p p.candidates
@@ -44,10 +44,10 @@ start_for kind p = begun_for p (parts_for kind p) p.wanted
 pub start_for_is : (kind : CutKind) (p : Problem) → IsSearchable p → IsStart p (start_for kind p)
 start_for_is kind p ok = begun_by p (parts_for kind p) p.wanted ok.problem ok.lacks_none (kind_is_sound kind p ok.problem) refl
 
--- ---- what a search comes to
+-- ---- the result of a search
 
--- what is known of it: it shows its answer and its nodes are counted, it stops for want of nodes alone, and its tree has only lines
--- that the first version spells where the problem is unlimited
+-- what is known of it: it proves its answer, its nodes are counted, and it stops only for want of nodes. Where the
+-- problem is unlimited, its tree has only lines that the first version spells
 pub record IsSearched (p : Problem) (n : Option ℕ) (g : Grown) : Type 0 where
   pub problem : IsProblem p
   pub proof : IsProof p g
@@ -135,7 +135,7 @@ found_enough_is : (p : Problem) (n : Option ℕ) (g : Grown) (found : Found) →
     → IsEnough (2 ^ (length p.candidates + 1)) n → found.bound ≡ found.cost
 found_enough_is p n g found s is enough = is.bound ∙ s.whole (s.enough enough) ∙ sym is.cost
 
--- all that is told of a finding
+-- all that is known of a finding
 pub record IsToldOf (p : Problem) (n : Option ℕ) (g : Grown) (found : Found) : Type 0 where
   pub certificate : (v : ℕ) → proof_of v p found g.tree ≡ certificate_of p v g
   pub proved : IsProved p found

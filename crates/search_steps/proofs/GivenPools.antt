@@ -1,4 +1,4 @@
--- A pool that grows, by separated cuts and by given ones, and the numbers that it finds.
+-- A pool that grows, by separated cuts and by imported ones, and the numbers that it finds.
 use Rattle.std.proofs.Common.{◌≡◌, ◌≢◌, ℕ, ◌+◌, ◌-◌, ◌<◌, true, false, nat_lt, List, [], ◌∷◌, ◌++◌, length, map, get_or, Option, Some, None, IfSome, IfNone, position, option_map, refl, sym, subst, ap, ◌∙◌, append-nil, lt-ltb, le-ltb, arith}
 use Rattle.std.specs.List.{position_or_len}
 use Rattle.std.proofs.lemmas.Bool.{false_from_ne_true}
@@ -46,9 +46,9 @@ weights_stay before after ws grown are = record {
   most = are.most;
 }
 
--- ---- a given cut
+-- ---- an imported cut
 
--- where a given cut is added to a pool, the state is the one with this cut given
+-- where an imported cut is added to a pool, the state is the one with this cut added
 pub added_is_given : (p : Problem) (entries : List Entry) (cut : Cut) (hubs : List ℕ) (cost made : ℕ) (stop : Option ℕ)
     → state_by p (entries ++ given_entry p.size cut ∷ []) hubs cost made stop ≡ with_given (cut ∷ []) (state_by p entries hubs cost made stop)
 unfolding with_given

@@ -1,4 +1,4 @@
--- The cuts of a pool as a finding keeps them.
+-- The cuts of a pool as a finding stores them.
 use Rattle.std.proofs.Common.{◌≡◌, ℕ, List, [], ◌∷◌, map, All, Option, IsSome, IsNone, true≢false, refl, sym, ap, ap₂, subst, ◌∙◌}
 use Rattle.std.proofs.lemmas.List.Elements.{All-nil, All-cons, All-head, All-tail}
 use Rattle.hub_spec.specs.Problem.{Problem}
@@ -32,7 +32,7 @@ fit p [] are = All-nil (IsKeptFor p)
 fit p (e ∷ es) are =
     All-cons (IsKeptFor p) e.cut (map (λ x. x.cut) es) (All-head (IsSumsOf p) e es are).fits (fit p es (All-tail (IsSumsOf p) e es are))
 
--- a cut that has a set and no mark is made anew
+-- the duals of a cut that has a set and no mark are computed again
 pub own_by_sets : (kept : List Kept) → All (λ (set : Option (List ℕ)). IsSome set) (map kept_set kept)
     → All (λ (mark : Option Mark). IsNone mark) (map kept_mark kept) → All IsRemade kept
 own_by_sets [] are unmarked = All-nil IsRemade

@@ -1,4 +1,4 @@
--- The cut of each kind of a hub set serves, and what is kept of it is of that set and has its mark.
+-- The cut of each kind from a hub set is in range and tight at it. The stored cut is of that set and has its mark.
 use Rattle.std.proofs.Common.{◌≡◌, ℕ, List, Option, Some, None, refl, ap, sym, arith}
 use Rattle.std.specs.Prelude.{option_map}
 use Rattle.std.proofs.lemmas.List.FromFn.{get_or-map-range_with_len, length-map-range_with_len}
@@ -23,7 +23,7 @@ use Rattle.search_steps.specs.Kinds.{CutKind, minimal, core, core_or, cored_or, 
 use Rattle.search_steps.specs.Entered.{IsEntryOf}
 use Rattle.search_steps.specs.KindTheorems.{PartsAreSound, KeptIsOfSet}
 
--- ---- core cuts
+-- ---- Pareto-optimal cuts
 
 core_is : (p : Problem) (set : List ℕ) (x : MarkedCut) → IsProblem p → IsHubSet p set → core_marked p set ≡ Some x → IsServing p set x
 core_is p set x ok is_set found =
@@ -37,7 +37,7 @@ core_serves p set other (Some x) ok is_set found serves =
     let is = core_is p set x ok is_set found in
     record { is_cut = is.core.is_cut; in_range = is.cut_in_range; tight = is.tight; whole = is.whole }
 
--- the entry of a core cut has its sums
+-- the entry of a Pareto-optimal cut has its sums
 core_sums : (p : Problem) (set : List ℕ) (x : MarkedCut) → IsServing p set x → IsSumsOf p (core_entry p.size x)
 core_sums p set x is = record {
   pooled = tt;
@@ -47,7 +47,7 @@ core_sums p set x is = record {
   are_loads = λ k node. get_or-map-range_with_len (load x.cut) 0 p.size k k 0 node (omega arith);
 }
 
--- the core cut that is found is entered as one
+-- the Pareto-optimal cut that is found is entered as one
 pub core_entered : (p : Problem) (set order : List ℕ) (x : MarkedCut) → IsProblem p → IsHubSet p set → core_marked p set ≡ Some x
     → IsEntryOf core p set order (core_entry p.size x)
 core_entered p set order x ok is_set found = record {

@@ -1,4 +1,4 @@
--- The master of a pool's cuts, and what it advises a search.
+-- The master of a pool's cuts, and the weights and point that it gives a search.
 use Rattle.std.proofs.Common.{◌≡◌, ℕ, zero, suc, ◌*◌, ◌/◌, ◌<◌, ◌≤◌, List, [], ◌∷◌, ◌++◌, length, map, get_or, sum, All, Contains, inl, inr, refl, sym, ap, ap₂, subst, ◌∙◌, Option, div-mul-le_self, arith, ◌+◌, Some, None}
 use Rattle.std.specs.Prelude.{slice_index}
 use Rattle.std.proofs.Math.Nat.{mul-div_cancel}
@@ -30,7 +30,7 @@ use Rattle.search_steps.specs.Theorems.{AdvisingIsSound}
 use Rattle.search_steps.proofs.PoolNumbers.{lent_parts, parts_are, parts_least, told_totals, told_loads, loads_below, loads_long}
 use Rattle.search_steps.proofs.PoolLoads.{AreAtMost, most_reached}
 
--- ---- the fixed costs that the master is asked with
+-- ---- the fixed costs of the master
 
 share_long : (wanted : Option ℕ) (cost : ℕ) (fixed : List ℕ) → length (with_share wanted cost fixed) ≡ length fixed
 share_long None cost fixed = refl
@@ -42,7 +42,8 @@ costs_long p cost fixed ok costs = ap length costs ∙ share_long p.wanted cost 
 
 -- ---- the numbers
 
--- the numbers are those that the pool lends for one unit of its cuts' parts, with the fixed costs for an incumbent of this cost
+-- the numbers are those that the pool lends for one unit of its cuts' parts, with the fixed costs for an incumbent of
+-- this cost
 pub record AreMasters (p : Problem) (entries : List Entry) (cost : ℕ) (totals : List ℕ) (loads : List (List ℕ)) (fixed : List ℕ) : Type 0 where
   pub problem : IsProblem p
   pub pool : IsPoolOf p entries
@@ -93,7 +94,7 @@ masters_same p entries cost totals loads fixed are =
     ap₂ of (are.are_totals ∙ told_totals p entries are.pool) (are.are_loads ∙ told_loads p entries are.pool)
     ∙ ap (λ (f : List ℕ). record (master_numbers p (pool_cuts p entries) cost) { fixed = f }) are.costs
 
--- the greatest load of the cuts that are kept with their duals is not above the greatest number of the master
+-- the greatest load of the cuts that are stored with their duals is not above the greatest number of the master
 candidate_there : (p : Problem) (b : Branching) (k : ℕ) → IsBranch p b → Contains p.candidates k → Contains (candidates_of b) k
 candidate_there p b k is c = elim (is.all k c) [
   | inl inside ↦ Contains-append_left b.inside (b.outside ++ b.free) k inside
@@ -154,7 +155,7 @@ lowered_each old new parts same few each =
     same_number_lists new (in_parts old parts) (same ∙ sym (parts_long old parts few))
     (λ k low. let here : k < length old = omega (arith, low, same) in each k here ∙ sym (in_parts_at old parts k here few))
 
--- ---- what is advised
+-- ---- the weights and point of the master
 
 pub advice_is : (p : Problem) (entries : List Entry) (cost : ℕ) (totals : List ℕ) (loads : List (List ℕ)) (fixed : List ℕ) (b : Branching) (a : Advised) (ws : List ℕ)
     → AreMasters p entries cost totals loads fixed → a ≡ advice (master_of totals loads fixed) b → ws ≡ in_parts a.weights (lent_parts entries)
@@ -189,7 +190,7 @@ node_weights p entries cost totals loads fixed weights lowered are mix is =
       most = most;
     }
 
--- ---- the advice is sound
+-- ---- the weights and point of the master are sound
 
 pub advising_sound : AdvisingIsSound
 unfolding master_advising

@@ -1,4 +1,4 @@
--- What the open nodes of a branch lack together, and the set that is picked where any number of hubs will do.
+-- The commodity for which the open nodes of a branch are infeasible, and the set that is picked for any number of hubs.
 use Rattle.std.proofs.Common.{◌≡◌, ℕ, ◌+◌, ◌≤◌, true, false, List, length, Option, None, is_some, refl, ap, sym, ◌∙◌}
 use Rattle.std.specs.Prelude.{option_map}
 use Rattle.hub_spec.specs.Problem.{Problem}
@@ -9,7 +9,7 @@ use Rattle.search_spec.specs.Choices.{picked, all_open, pick_for, rule_parts}
 use Rattle.p_hub.proofs.OpenBranches as open_nodes
 use Rattle.search_steps.specs.Advising.{parts_of}
 
--- they lack nothing where no length is limited
+-- they are feasible for each commodity where no length is limited
 pub never_blocked : (p : Problem) (b : Branching) → p.longest ≡ None → 1 ≤ length b.inside + length b.free
     → None ≡ option_map preorder ((parts_of p).blocked b)
 unfolding rule_parts

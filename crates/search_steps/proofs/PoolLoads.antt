@@ -81,7 +81,7 @@ entry_load p e k ok is candidate =
     let limit = All-contains (λ (m : ℕ). load cut m ≤ cut.part * most_cost) p.candidates k limits candidate in
     rw (is.are_loads k (candidate_is_node p k ok candidate), part_is p e is) limit
 
--- ---- loads within totals and the greatest load of the cuts that are kept with their duals
+-- ---- loads within totals and the greatest load of the cuts that are stored with their duals
 
 unit_below : (part m : ℕ) (us : List ℕ) → most_unit part us ≤ m → All (λ u. u / part ≤ m) us
 unit_below part m [] low = All-nil (λ u. u / part ≤ m)
@@ -115,12 +115,12 @@ all_within p (e ∷ es) m ok are low =
     (kept_within p e.cut e.total m e.loads ok is.pooled is.fits is.is_total is.one_load_each is.are_loads (omega (arith, low)))
     (all_within p es m ok (All-tail (IsSumsOf p) e es are) (omega (arith, low)))
 
--- no load of a pool's entries is above both its total and the greatest load of the cuts that are kept with
--- their duals
+-- no load of a pool's entries is above both its total and the greatest load of the cuts that are stored with their
+-- duals
 pub loads_within_units : (p : Problem) (es : List Entry) → IsProblem p → IsPoolOf p es → All (IsWithinUnits (most_stated es)) es
 loads_within_units p es ok are = all_within p es (most_stated es) ok are (omega arith)
 
--- ---- the greatest load of the cuts that are kept with their duals is a candidate's
+-- ---- the greatest load of the cuts that are stored with their duals is a candidate's
 
 -- no candidate has a load above this number
 abbrev pub AreAtMost : Problem → ℕ → List (List ℕ) → Type 0

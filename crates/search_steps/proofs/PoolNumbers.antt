@@ -56,7 +56,7 @@ within_each most (e ∷ entries) are =
       within_each most entries (All-tail (IsWithinUnits most) e entries are),
     )
 
--- no load is above both its cut's total and the greatest load of the cuts that are kept with their duals
+-- no load is above both its cut's total and the greatest load of the cuts that are stored with their duals
 pub loads_below : (p : Problem) (entries : List Entry) → IsProblem p → IsPoolOf p entries
     → AreWithinTotals (most_stated entries) (unit_totals entries) (unit_loads entries)
 loads_below p entries ok are = within_each (most_stated entries) entries (loads_within_units p entries ok are)

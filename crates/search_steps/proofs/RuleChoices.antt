@@ -1,4 +1,4 @@
--- The choices of the rule, by the number of hubs that is wanted.
+-- The choices of the rule, by the wanted number of hubs.
 use Rattle.std.proofs.Common.{◌≡◌, ℕ, ◌+◌, ◌≤◌, true, false, nat_eq, List, length, Option, Some, None, ap, sym, subst, ◌∙◌}
 use Rattle.hub_spec.specs.Problem.{Problem, IsProblem}
 use Rattle.hub_spec.specs.Plans.{IsHubSet}
@@ -49,7 +49,7 @@ pub room_when : (p : Problem) (b : Branching) → (parts_of p).barren b ≡ None
 unfolding rule_parts
 room_when p b none = number.room_when p.wanted b none
 
--- where just so many are wanted, some hubs are missing where no set is left alone, and not all free nodes are
+-- where exactly n are wanted, a branch that goes on misses hubs, but fewer than it has free nodes
 pub between : (n : ℕ) (p : Problem) (b : Branching) → p.wanted ≡ Some n → GoesOn (parts_of p) b → IsBetween n b
 between n p b wanted on =
     number.between n b (barren_is p (Some n) b wanted ∙ on.barren) (only_is p (Some n) b wanted ∙ on.only)

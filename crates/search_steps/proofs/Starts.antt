@@ -85,7 +85,7 @@ first_going kind t after set order ok cut is_set hubs none one =
 
 -- ---- the first set
 
--- the set has the least candidates, as many as are wanted, which are not all
+-- the set has the first n candidates, where exactly n hubs are wanted, and these are not all candidates
 pub record IsLeast (p : Problem) (set : List ℕ) : Type 0 where
   n : ℕ
   wanted : p.wanted ≡ Some n

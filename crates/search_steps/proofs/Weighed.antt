@@ -71,7 +71,8 @@ weighting_is n m lent =
       few_weights = omega (arith, ap length lent.are_weights, length-map entries (entry_cut p), lent.weighed.weights.few);
     }
 
--- the bound with the weighting's numbers, by the number of hubs that is wanted, if one is, is that in each state with these entries
+-- the bound with the weighting's numbers is that in each state with these entries. It is by the wanted
+-- number of hubs, if there is one
 pub lent_for : (wanted : Option ℕ) (n : NodeWeights) (m : lent.Weighting) (b : Branching) → n.instance.now.wanted ≡ wanted → IsLentBy n m
     → IsBranch n.instance.now b → let p = n.instance.now in
     InEachState p n.pool.now.entries (λ s. bound_for wanted (weighting_of m) b ≡ bound_at p s b (pairs_of n.weights.now))

@@ -1,4 +1,4 @@
--- The sums of a set's cut are what a search keeps of it.
+-- The sums of the Benders cut from a hub set are what a search stores of it.
 use Rattle.std.proofs.Common.{◌≡◌, ℕ, ◌<◌, List, length, slice_index, sym, subst}
 use Rattle.hub_spec.specs.Problem.{Problem}
 use Rattle.hub_spec.specs.Plans.{IsHubSet}

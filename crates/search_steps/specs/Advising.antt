@@ -1,4 +1,4 @@
--- What the master of a branch advises a search that has these cuts.
+-- The weights and the point that the master of a branch gives a search with these cuts.
 use Rattle.std.specs.Prelude.{ℕ, ◌+◌, ◌*◌, ◌/◌, List, [], ◌∷◌, map, slice_index_or, pos, Option, Some, None}
 use Rattle.std.specs.List.{range_with_len}
 use Rattle.hub_spec.specs.Problem.{Problem}
@@ -9,7 +9,7 @@ use Rattle.leaf_bound.specs.Theorems.{weight_pairs}
 use Rattle.frac_master.specs.Masters.{MasterNumbers}
 use Rattle.frac_master.specs.Advice.{Advised, advice}
 
--- what a master is told of a cut: its total for each unit of its part, rounded down
+-- a cut's total in the master: for each unit of its part, rounded down
 abbrev pub unit_total : Cut → ℕ
 unit_total cut = total cut / cut.part
 
@@ -17,12 +17,12 @@ unit_total cut = total cut / cut.part
 abbrev pub unit_node_loads : Problem → Cut → List ℕ
 unit_node_loads p cut = map (λ k. load cut k / cut.part) (range_with_len 0 p.size)
 
--- these fixed costs; where just so many hubs are wanted, each with what the incumbent costs by hub besides
+-- these fixed costs; where exactly n hubs are wanted, each with an n-th of the incumbent's cost added, rounded down
 abbrev pub with_share : Option ℕ → ℕ → List ℕ → List ℕ
 with_share None cost fixed = fixed
 with_share (Some n) cost fixed = map (λ f. f + cost / n) fixed
 
--- the fixed costs that the master is asked with, where the incumbent has this cost
+-- the fixed costs of the master, where the incumbent has this cost
 abbrev pub advised_costs : Problem → ℕ → List ℕ
 advised_costs p cost = with_share p.wanted cost p.fixed_costs
 
@@ -30,7 +30,7 @@ advised_costs p cost = with_share p.wanted cost p.fixed_costs
 abbrev pub master_numbers : Problem → List Cut → ℕ → MasterNumbers
 master_numbers p cuts cost = record { totals = map unit_total cuts; loads = map (unit_node_loads p) cuts; fixed = advised_costs p cost }
 
--- what a search is told by a master: the weights above 0 by cut number, and a point that is 0 beyond the nodes
+-- the master's result as a search has it: the weights above 0 by cut number, and a point that is 0 beyond the nodes
 abbrev pub told_by : Advised → Advice
 told_by a = record { weights = weight_pairs a.weights; point = λ k. slice_index_or a.point k (pos 0); scale = a.scale }
 
@@ -40,14 +40,15 @@ in_parts [] parts = []
 in_parts (w ∷ weights) [] = []
 in_parts (w ∷ weights) (e ∷ parts) = w / e * e ∷ in_parts weights parts
 
--- the advice with weights that a leaf on these cuts may have
+-- the master's result with weights that a leaf on these cuts may have
 abbrev pub advised_on : List Cut → Advised → Advised
 advised_on cuts a = record a { weights = in_parts a.weights (map (λ cut. cut.part) cuts) }
 
--- how the master advises: by the cuts of the state, on the branch; where each part is 1 the weights are the master's own
+-- the weights and point of the master over the state's cuts, on the branch; where each part is 1 the weights are the
+-- master's own
 unfoldable pub master_advising : Problem → Advising
 master_advising p s b = told_by (advised_on s.cuts (advice (master_numbers p s.cuts s.cost) b))
 
--- the parts of the rule, with the master's advice
+-- the parts of the rule, with the weights and point of the master
 abbrev pub parts_of : Problem → Parts
 parts_of p = rule_parts p (master_advising p)

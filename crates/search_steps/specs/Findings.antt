@@ -10,8 +10,8 @@ use Rattle.cut_pool.specs.Kept.{kept_set, kept_cuts, kept_mark, AreKeptFor}
 use Rattle.cut_pool.specs.Findings.{lines_of}
 use Rattle.cut_pool.specs.declared.found.Found.{Found}
 
--- the code's finding is this one: what is kept of its cuts are the hub sets that were separated, with their orders or as core
--- cuts with their marks, and the cuts that were given
+-- the code's finding is this one. Its stored cuts are from the hub sets that were separated, and besides there are the
+-- imported cuts. A set's cut is stored as the set with its order, or as a Pareto-optimal cut with its mark
 pub record IsFound (p : Problem) (g : Grown) (found : Found) : Type 0 where
   pub cost : found.cost ≡ g.state.cost
   pub bound : found.bound ≡ answer g.state

@@ -11,11 +11,11 @@ use Rattle.search_steps.specs.Kinds.{CutKind, minimal, cut_by, mark_by, kept_by,
 abbrev pub PartsAreSound : Type 0
 PartsAreSound = (kind : CutKind) (p : Problem) → IsProblem p → AreSound p (parts_for kind p)
 
--- minimal duals make the rule as it is without core cuts
+-- with minimal duals the rule is as it is without Pareto-optimal cuts
 abbrev pub MinimalIsRule : Type 0
 MinimalIsRule = (p : Problem) → parts_for minimal p ≡ parts_of p
 
--- what is kept of a hub set's cut is of that set, and has the cut and its mark
+-- the stored cut from a hub set is of that set, and has the cut and its mark
 pub record IsKeptOf (kind : CutKind) (p : Problem) (set order : List ℕ) : Type 0 where
   pub of_set : kept_set (kept_by kind p set order) ≡ Some set
   pub cut : kept_cut p (kept_by kind p set order) ≡ cut_by kind p set order

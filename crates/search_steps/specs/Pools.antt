@@ -1,4 +1,5 @@
--- The pool as a search's state has it: each entry has the sums of its cut, which was separated for a hub set or given.
+-- The pool as a search's state has it: each entry has the sums of its cut, which was separated for a hub set or
+-- imported.
 use Rattle.std.specs.Prelude.{◌≡◌, ℕ, ◌<◌, List, ◌++◌, map, length, slice_index, All, Option}
 use Rattle.hub_spec.specs.Problem.{Problem}
 use Rattle.hub_spec.specs.Cuts.{Cut, total, load}
@@ -11,7 +12,7 @@ use Rattle.cut_pool.specs.Entries.{Entry}
 abbrev pub entry_cut : Problem → Entry → Cut
 entry_cut p e = kept_cut p e.cut
 
--- the entry's cut fits the problem, it was separated or given, and the entry has its sums
+-- the entry's cut fits the problem, it was separated or imported, and the entry has its sums
 pub record IsSumsOf (p : Problem) (e : Entry) : Type 0 where
   pub pooled : IsPooled e.cut
   pub fits : IsKeptFor p e.cut
@@ -28,7 +29,7 @@ pub record HasGrown (before after : List Entry) : Type 0 where
   pub more : List Entry
   pub is : after ≡ before ++ more
 
--- the hub set that each was separated for, or none where it was given
+-- the hub set that each was separated for, or none where it was imported
 abbrev pub pool_sets : List Entry → List (Option (List ℕ))
 pool_sets entries = map (λ e. kept_set e.cut) entries
 

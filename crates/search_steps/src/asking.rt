@@ -37,7 +37,7 @@ pub trait Separator {
     // Which cuts it works out.
     ghost kind: { CutKind };
 
-    // What holds of a separator that may be asked.
+    // What holds of a separator that may be called.
     ghost ready: { Self → Type 0 };
 
     /// The cut of the hub set over this order of the other candidates: its sums, in 10^-12, or the Pareto-optimal cut.

@@ -17,8 +17,8 @@ use hub_model::{Branch, HubSet, Instance, unsigned};
 use p_hub::all_open;
 use std::alloc::{AllocError, Global};
 
-/// The hub set to separate where any number of hubs will do: the nodes that are picked, or where they lack a commodity all
-/// open nodes. The branch has a free node.
+/// The hub set to separate where any number of hubs will do: the picked nodes, or all open nodes where the picked ones
+/// are infeasible for a commodity. The branch has a free node.
 pub(crate) fn pick_any(
     alloc: Global,
     instance: &Instance,

@@ -24,9 +24,9 @@ use std::alloc::{AllocError, Global};
 
 /// The rule of a search: its choices that depend on the wanted number of hubs. Costs are in 10^-12.
 ///
-/// Each choice is that of the search's definition, for the instances of the rule. It is made here by the wanted number of
-/// hubs, which a rule tells; a rule of other plans would make it in another way. A branch has room where it can have the
-/// wanted number of hubs, or where none is wanted. A search bounds no other branch.
+/// Each choice is that of the search's definition, for the instances of the rule. It is made here by the rule's wanted
+/// number of hubs; a rule of other plans would make it in another way. A branch has room where it can have the wanted
+/// number of hubs, or where none is wanted. A search bounds no other branch.
 pub trait Rule {
     // The instances that it is the rule of.
     ghost serves: { Self → Problem → Type 0 };
@@ -112,8 +112,8 @@ pub trait Rule {
         bound_by_number(weighed.instance, &weighed.weighting(), branch)
     }
 
-    /// Variable fixing: the free candidates of the branch that these weights decide, ascending, each with the side that
-    /// stays. The child on its other side is fathomed at the incumbent's cost. The branch itself is not.
+    /// Variable fixing: the free candidates of the branch that these weights decide, ascending, each with the side to
+    /// which it is fixed. The child on its other side is fathomed at the incumbent's cost. The branch itself is not.
     fn fixings(
         &self,
         alloc: Global,

@@ -31,8 +31,8 @@ pub fn number_of(progress: &Progress, set: &HubSet) -> Option<u64>
     progress.pool.find(set)
 }
 
-/// Works out the cut of the set over this order of the other candidates, which becomes the next of the pool, and gives
-/// what the set costs, in 10^-12.
+/// Computes the Benders cut from this hub set over this order of the other candidates. The cut becomes the next of the
+/// pool. Returns what the set costs, in 10^-12.
 pub(crate) fn add_cut<S: Separator>(
     alloc: Global,
     instance: &Instance,
@@ -54,8 +54,8 @@ pub(crate) fn add_cut<S: Separator>(
     add(alloc, instance, pool, cut, order)
 }
 
-// Adds the cut of a set that was separated over this order, which becomes the next of the pool, and gives what the set
-// costs, in 10^-12.
+// Adds the Benders cut that was separated from a hub set over this order. The cut becomes the next of the pool. Returns
+// what the set costs, in 10^-12.
 fn add(
     alloc: Global,
     instance: &Instance,
@@ -76,7 +76,7 @@ fn add(
     }
 }
 
-// The same of the sums of a cut of minimal duals, by which its set costs the total and what its hubs cost.
+// The same for the sums of a cut from minimal duals: its set costs the cut's total and the fixed costs of its hubs.
 fn add_sums(
     instance: &Instance,
     pool: &mut Pool,
@@ -97,7 +97,7 @@ fn add_sums(
     Ok(cost)
 }
 
-// The same of a Pareto-optimal cut, whose set costs what its least routes and its hubs do.
+// The same for a Pareto-optimal cut: its set costs its least routes and the fixed costs of its hubs.
 fn add_core(
     alloc: Global,
     instance: &Instance,
@@ -143,8 +143,8 @@ pub fn separate<S: Separator>(
     keep(alloc, task, progress, cut, order)
 }
 
-/// Stores the cut of a set that was separated over this order of the other candidates: the second half of `separate`.
-/// The set becomes the incumbent if it costs less.
+/// Stores the Benders cut that was separated from a hub set over this order of the other candidates: the second half of
+/// `separate`. The set becomes the incumbent if it costs less.
 ///
 /// It fails where memory runs out, or where there are as many cuts as a certificate can have.
 pub fn keep(

@@ -89,7 +89,7 @@ impl Separator for Solo {
     }
 }
 
-// The sums of a cut of the hub set, as a search keeps them.
+// The sums of a Benders cut from the hub set, as a search stores them.
 fn kept_sums(alloc: Global, set: HubSet, total: u128, loads: &[u128]) -> Result<CutSums, AllocError>
     ensures { IfOk result (λ s. s ≡ record { hubs = set; total = total; loads = loads.now }) }
 {

@@ -18,8 +18,8 @@ use p_hub::first_hubs;
 use search_core::Task;
 use std::alloc::{AllocError, Global};
 
-/// The first state of a search. Its pool has the cut of the set of all candidates, and where fewer hubs are wanted that of
-/// as many of the least candidates. The last of them is the first incumbent.
+/// The first state of a search. Its pool has the Benders cut from the set of all candidates. Where fewer hubs are
+/// wanted, exactly p, it also has the cut from the first p candidates. The last of these sets is the first incumbent.
 pub fn begin<S: Separator>(
     alloc: Global,
     task: &Task,
@@ -41,7 +41,7 @@ pub fn begin<S: Separator>(
     Ok(progress)
 }
 
-// The cut of the set of all candidates, which is the incumbent.
+// The state with the Benders cut from the set of all candidates, which is the incumbent.
 fn begin_with_all<S: Separator>(
     alloc: Global,
     task: &Task,
@@ -70,8 +70,8 @@ fn begin_with_all<S: Separator>(
     })
 }
 
-// Adds the cut of the least candidates, as many as are wanted, which become the incumbent whatever they cost, since all
-// candidates are not wanted.
+// Adds the Benders cut from the first p candidates, where exactly p hubs are wanted. They become the incumbent whatever
+// they cost, since the set of all candidates has too many hubs.
 fn take_first<S: Separator>(
     alloc: Global,
     task: &Task,

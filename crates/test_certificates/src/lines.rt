@@ -11,9 +11,9 @@
 //! - `plan HUBS / FIRST LAST FIRST LAST ..`: hubs, and a route for each commodity in order, by its first and last hub
 //! - `tree LINE LINE ..`: a node to branch on, `-` to end the next branch, or `root` to restart; the free nodes after
 //!   each line
-//! - `leaf DENOMINATOR / TARGET / LINES / WEIGHT TOTAL LOADS / ..`: whether weighted cuts fathom the branch after these
-//!   lines of a tree, `root` for none. It is tested at the cutoff TARGET, and at TARGET raised by 1. Before a weight
-//!   may come `part PART`
+//! - `leaf DENOMINATOR / CUTOFF / LINES / WEIGHT TOTAL LOADS / ..`: whether weighted cuts fathom the branch after these
+//!   lines of a tree, `root` for none. It is tested at CUTOFF, and at CUTOFF raised by 1. Before a weight may come
+//!   `part PART`
 //! - `marks SIZE CHANGE CHANGE ..`: a set of nodes below a size, with `+K` added and `-K` removed
 
 mod duals;

@@ -60,7 +60,7 @@ fn answer(alloc: Global, instance: &str, line: &str) -> Result<String, AllocErro
     }
 }
 
-// What is asked of the instance.
+// The answer to the line, for this instance.
 fn asked(alloc: Global, instance: &str, line: &str) -> Result<String, AllocError> {
     match named_instance(alloc, instance) {
         Ok(instance) => of_instance(alloc, &instance, line),

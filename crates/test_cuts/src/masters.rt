@@ -7,15 +7,18 @@
 //! it are comments. A branch has a sign for each node: `+` open, `-` closed, `?` free, `.` no candidate. The part of a
 //! cut is 1, unless its field has the word `part`; then the part comes before the total.
 //!
-//!     rows RIGHTS; NUMBERS OF THE VARIABLES, ROW BY ROW; STEP; STEP ..       a step: table, run, or pivot ROW COLUMN
-//!     plain OBJECTIVE; CONSTRAINT / CONSTRAINT ..; STEP ..     a constraint: numbers, right side; a step: table or run
-//!     first BRANCH; FIXED COSTS; TOTAL AND LOADS OF A CUT; ..                the master's first tableau
-//!     advise BRANCH; FIXED COSTS; TOTAL AND LOADS OF A CUT; ..               its weights and point
-//!     advise-by-totals BRANCH; ..                                            the same, of loads within their totals
-//!     leaf BRANCH; TARGETS; WEIGHTS AND WHAT THEY ARE SHARES OF; FIXED COSTS; TOTAL AND LOADS OF A CUT; ..
-//!     counted P; BRANCH; ..                                  as leaf, for exactly P hubs
-//!     pick P; BRANCH; POINT                                  P hubs by the point
-//!     pool STEP; STEP ..     a step: reserve COUNT, add SET, ORDER, TOTAL, LOADS, find SET, short, or cuts
+//! - `rows RIGHTS; NUMBERS OF THE VARIABLES, ROW BY ROW; STEP; STEP ..`: each step is `table`, `run`, or
+//!   `pivot ROW COLUMN`
+//! - `plain OBJECTIVE; CONSTRAINT / CONSTRAINT ..; STEP ..`: a constraint is numbers and a right side, and each step is
+//!   `table` or `run`
+//! - `first BRANCH; FIXED COSTS; TOTAL AND LOADS OF A CUT; ..`: the master's first tableau
+//! - `advise BRANCH; FIXED COSTS; TOTAL AND LOADS OF A CUT; ..`: its weights and point
+//! - `advise-by-totals BRANCH; ..`: the same, of loads within their totals
+//! - `leaf BRANCH; CUTOFFS; WEIGHTS AND WHAT THEY ARE SHARES OF; FIXED COSTS; TOTAL AND LOADS OF A CUT; ..`: the bound
+//!   of the branch, and what it fixes at each cutoff
+//! - `counted P; BRANCH; ..`: as `leaf`, for exactly P hubs
+//! - `pick P; BRANCH; POINT`: P hubs by the point
+//! - `pool STEP; STEP ..`: each step is `reserve COUNT`, `add SET, ORDER, TOTAL, LOADS`, `find SET`, `short`, or `cuts`
 //!
 //! In the order of reading: `fields` (numbers, branches and cuts of a line), `limits` (numbers and nodes within
 //! limits), `tables` (rows), `programs` (plain), `masters`, `weighing` and `leaves` (leaf), `counted` (counted and

@@ -33,7 +33,7 @@ MayBeAsked (Some most) None = most ≤ most_length
 MayBeAsked None (Some n) = (1 ≤ n) × (n ≤ most_nodes)
 MayBeAsked (Some most) (Some n) = ⊥
 
--- the options that name the case's candidates, and what is asked for
+-- the options of the case: its candidates, and its longest route or its number of hubs, if it has one
 abbrev pub terms_of : Case → Options
 terms_of case = record plain_options {
   candidates = Some case.candidates.now;

@@ -61,7 +61,7 @@ fn parts(alloc: Global, case: &Case) -> Result<Parts, NoInstance>
     }
 }
 
-// The terms that name the case's candidates, and what is asked for.
+// The terms of the case: its candidates, and its longest route or its number of hubs, if it has one.
 fn terms(alloc: Global, case: &Case) -> Result<Terms, NoInstance>
     ensures { IfOk result (λ terms. terms ≡ terms_of case.now) }
 {

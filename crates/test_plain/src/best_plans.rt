@@ -58,7 +58,7 @@ fn with_last(alloc: Global, nodes: &[u32], k: u32) -> Result<Vec<u32>, AllocErro
     Ok(more)
 }
 
-/// The cheaper of this plan and the best one with just these hubs, if they are a hub set and as many as are wanted.
+/// The cheaper of this plan and the best one with just these hubs, if they are a hub set and have the wanted number.
 fn cheaper(
     alloc: Global,
     instance: &Instance,

@@ -5,8 +5,8 @@
 //! are in 10^-12: they are summed as `u128`. Nodes are `u32`, counted from 0.
 //!
 //! The modules build on one another in this order: `assignments` (what a hub set costs, with all its routes), `serving`
-//! (the commodities that have no route), `plans` (what is a plan), `best_plans` (an optimal plan), `ways` (hub edges),
-//! `duals` (the value that each candidate outside has at least, in its turn), `set_cuts`.
+//! (the commodities that have no route), `plans` (what is a plan), and `best_plans` (an optimal plan). Then come `ways`
+//! (hub edges), `duals` (the value that each candidate outside has at least, in its turn) and `set_cuts`.
 #![tactic(auto)]
 
 mod assignments;

@@ -179,7 +179,7 @@ fn reads<R: Threads + Sync>(
     format!(in alloc; "{lengths} lengths, {differ} differ\n")
 }
 
-// How many calls of the shelf a run makes with reads of at most ten bytes, and how many are told where they fail.
+// How many calls of the shelf a run makes with reads of at most ten bytes, and how many failures of these it reports.
 fn failing<R: Threads + Sync>(
     rt: &R,
     alloc: Global,

@@ -167,7 +167,7 @@ fn see_put<R: Threads + Sync>(
     Ok(true)
 }
 
-// Whether one put failed, and the stream took a front of its text.
+// Whether one put failed, and the stream took a prefix of its text.
 fn tells_write(ran: &Ran, stream: Stream, wanted: &Ran) -> bool {
     ran.status == Status::Write
         && ran.failed_puts == 1

@@ -45,7 +45,7 @@ impl Ran {
         Ok(told)
     }
 
-    /// Whether one call of the shelf failed, and that is all that is told.
+    /// Whether one call of the shelf failed, and the run reports that alone.
     pub(crate) fn tells_read(&self) -> bool {
         self.status == Status::Read
             && self.failed_reads == 1
@@ -54,7 +54,7 @@ impl Ran {
     }
 }
 
-// The words of the lines with a number that is told of a long text.
+// The first words of the lines whose number is printed of a long text.
 const NUMBERS: [&str; 5] = ["size", "cost", "bound", "cuts", "nodes"];
 
 /// The faults beside a run: which calls of the shelf fail, how few bytes its reads give, which puts fail, and whether

@@ -60,8 +60,8 @@ pub(crate) fn search_told(
     format!(in alloc; "cost {cost} bound {bound} hubs {hubs:?} cuts {cuts}\n{tree}")
 }
 
-/// What the search finds that begins again with the line's hubs and the Pareto-optimal cut of these: the cost, the bound,
-/// the hubs, and how many of its cuts were given; and what an optimal plan costs.
+/// What the search finds that begins again with the line's hubs and the Pareto-optimal cut of these: the cost, the
+/// bound, the hubs, and how many of its cuts were imported. Also what an optimal plan costs.
 pub(crate) fn again_told(
     alloc: Global,
     instance: &Instance,
@@ -94,7 +94,7 @@ fn start_of(alloc: Global, instance: &Instance, set: &HubSet) -> Result<Option<S
     }
 }
 
-// The Pareto-optimal cut of the set, within the ranges of a certificate.
+// The Pareto-optimal Benders cut from the hub set, within the ranges of a certificate.
 fn served(alloc: Global, instance: &Instance, set: &HubSet) -> Result<Option<MarkedCut>, AllocError>
     requires { IsHubSet instance.now set.now }
     ensures { IfOk result (λ found. IfSome found (IsServing instance.now set.now)) }

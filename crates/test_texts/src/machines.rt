@@ -34,7 +34,7 @@ impl Write for Narrow {
     }
 }
 
-/// Prints what reading and putting come to.
+/// Prints the results of reading and putting.
 pub(crate) fn tell(rt: &HostRuntime) -> io::Result<()> {
     let mut shelf = DiskShelf::new(rt);
     let mut into = [0u8; 4];

@@ -4,15 +4,15 @@
 //! A line is a call with its arguments, and, where the call takes a text, a colon and the text:
 //!
 //! - `reader READ READ..: FILE`, of `token_reader`: consecutive reads, each `size`, `quantity/PLACES/LIMIT`,
-//!   `quantities/COUNT/PLACES/LIMIT`, `index/NODES`, `coordinate`, `ended` or `end`
+//!   `quantities/COUNT/PLACES/LIMIT`, `index/NODES`, `coordinate`, `ended` or `end`;
 //! - `matrix ORDER DIVIDE: FILE`, `rows ORDER DIVIDE: FILE` and `costs NODES: FILE`, of `instance_cab`. The call
-//!   `equal-matrix NODES FLOW DISTANCE` reads a file of that size in which all flows are equal, and all distances
-//! - `ap TAIL DIVIDE: FILE`, of `instance_ap`
-//! - `distance DX DY DIVIDE` and `root VALUE`, of `fixed_distance`
-//! - `made-text SEED NODES`, of `hub_make`: the text, or of a long one its length, its checksum Adler-32 and its ends
+//!   `equal-matrix NODES FLOW DISTANCE` reads a file of that size in which all flows are equal, and all distances;
+//! - `ap TAIL DIVIDE: FILE`, of `instance_ap`;
+//! - `distance DX DY DIVIDE` and `root VALUE`, of `fixed_distance`;
+//! - `made-text SEED NODES`, of `hub_make`: the text, or of a long one its length, its checksum Adler-32 and its ends;
 //! - `made-instance SEED NODES`, of `hub_make`, and `demo-lines ROOM NODES COST BOUND HUBS SEARCHED`, its lines, put on
-//!   a sink with a capacity of ROOM bytes
-//! - `words: WORD WORD..`, of `hub_words`: the command that the arguments are
+//!   a sink with a capacity of ROOM bytes;
+//! - `words: WORD WORD..`, of `hub_words`: the command that the arguments are.
 //!
 //! In files `%` and two hexadecimal digits spell a byte. A line that begins with `#` is printed as it is.
 

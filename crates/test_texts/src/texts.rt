@@ -3,22 +3,22 @@
 //!
 //! A line is a call with its arguments, a colon, and a text. Calls of `dec_text`:
 //!
-//! - `decimal PLACES: TOKEN`, the result of `read_decimal`, and `count LEAST MOST: TEXT`, that of `read_count`
-//! - `tokens: BYTES`, the `Tokens` of a file with their positions
-//! - `number: VALUE` and `fixed PLACES: VALUE`, the output of `put_number` and `put_fixed`
+//! - `decimal PLACES: TOKEN`, the result of `read_decimal`, and `count LEAST MOST: TEXT`, that of `read_count`;
+//! - `tokens: BYTES`, the `Tokens` of a file with their positions;
+//! - `number: VALUE` and `fixed PLACES: VALUE`, the output of `put_number` and `put_fixed`;
 //! - `lines SINK: LINE|LINE..`, each line by `put_line`, and the contents of the sink after it.
 //!   `pieces SINK: LINE|LINE..` uses `put_pieces` through one buffer. A line has words, each a text, or `number=N`,
-//!   `count=N` or `fixed=N`, the last in 10^-6
+//!   `count=N` or `fixed=N`, the last in 10^-6.
 //!
 //! Calls of `hub_io`:
 //!
 //! - `sink SINK: PIECE PIECE..`, each put on a `MemSink`, and the contents of the sink after it.
-//!   `buffer SINK: PIECE PIECE..` puts them through a `Buffer`, which is finished twice, but not used after a failure
+//!   `buffer SINK: PIECE PIECE..` puts them through a `Buffer`, which is finished twice, but not used after a failure;
 //! - `shelf: FILE.. CALL..`, `shelf fails CALLS: ..` and `shelf fails CALLS lengths LENGTHS: ..`, consecutive calls on
-//!   a `MemShelf`: `begin:NAME`, `read:COUNT`, `whole:NAME:LIMIT` and `faults`. A file is `NAME=PIECE`.
+//!   a `MemShelf`: `begin:NAME`, `read:COUNT`, `whole:NAME:LIMIT` and `faults`. A file is `NAME=PIECE`;
 //! - `reads LIMIT LENGTHS: PIECE`, a file that `read_whole` reads, once for each call of the shelf, with that call
-//!   failing
-//! - `gate: WORKER BLOCK`, a worker that passes the `OpenGate`
+//!   failing;
+//! - `gate: WORKER BLOCK`, a worker that passes the `OpenGate`.
 //!
 //! A `SINK` is its capacity in bytes, or `ROOM fails CALL after TAKEN`, where the put of that number fails once so many
 //! bytes are taken. A `PIECE` is a text or `TEXT*COUNT`. In texts `%` and two hexadecimal digits spell a byte. Lists

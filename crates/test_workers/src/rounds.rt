@@ -24,8 +24,9 @@ use std::test::Fail;
 use std::thread::Threads;
 use test_plain::is_hub_set;
 
-// The rounds of the smallest made-up instance have one node, one, one and two: those with both hubs and with the first alone,
-// and the turn of each is a leaf. In the last round each worker waits at its node until the other has drawn one.
+// The rounds of the smallest made-up instance have one node, one, one and two. The last two are those with both hubs
+// and with the first alone, and each ends in a leaf. In the last round each worker waits at its node until the other
+// has drawn one.
 #[test]
 fn two_workers_meet_in_the_fourth_round(rt: HostRuntime) -> Result<(), Fail> {
     let alloc = rt.alloc();
@@ -140,7 +141,7 @@ fn node(alloc: Global, instance: &Instance, branch: Branch, waits: u32) -> Pendi
     }
 }
 
-// What a turn comes to.
+// The outcome of a node evaluation.
 fn told(alloc: Global, outcome: &Outcome) -> Result<String, AllocError> {
     match outcome {
         Outcome::Ends(line) => format!(in alloc; "ends {line:?}\n"),
@@ -236,17 +237,17 @@ fn nodes_of_two(alloc: Global, instance: &Instance) -> Result<Vec<Pending>, Fail
     Ok(nodes)
 }
 
-// The hubs cost 1200 and 1300 * 10^12, and the cut of the first alone is 9414850000000000 with the load 8285068000000000 of
-// the second: by this cut the root's bound is 2429782000000000, and 3629782000000000 where the first is a hub, which is what
-// both cost.
+// The hubs cost 1200 and 1300 * 10^12. The Benders cut from the first alone has the total 9414850000000000 and the load
+// 8285068000000000 of the second. By this cut the root's bound is 2429782000000000, and 3629782000000000 where the
+// first is a hub, which is what both cost.
 const TURNS_OF_TWO: &str = "ends Leaf(Mix { denom: 1000000, weights: [(1, 1000000)] })
 asks [1] over [0], weights [], waited false
 asks [1] over [0], weights [0, 1000000], waited true
 splits, weights [0, 1000000], fixings [(0, Out), (1, In)], point [0, 1]
 ";
 
-// Tells whether two workers find the turns of these nodes that are found one after another, where they wait for one another,
-// and where each in turn waits for all draws of the other.
+// Tells whether two workers find the outcomes that are found node by node. It tests this where they wait for one
+// another, and where each in turn waits for all draws of the other.
 fn turns_agree<R: Threads + Sync>(
     rt: &R,
     alloc: Global,

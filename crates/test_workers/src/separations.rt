@@ -198,7 +198,7 @@ fn two_workers_meet(rt: HostRuntime) -> Result<(), Fail> {
     Ok(())
 }
 
-// The whole cut of the set of the first node alone, by two workers.
+// The whole Benders cut from the set of the first node alone, by two workers.
 fn whole_cut_of_first<R: Threads + Sync, G: Gate>(
     rt: &R,
     alloc: Global,

@@ -5,6 +5,6 @@ use Rattle.std.specs.Prelude.{ℕ, ◌-◌, ◌/◌, ◌%◌, ◌^◌, List, ◌
 abbrev pub zero_padded : ℕ → ℕ → List ℕ
 zero_padded width number = replicate (width - length (decimal number)) 48 ++ decimal number
 
--- the whole part, a point, and just so many decimals
+-- the whole part, a point, and exactly `places` decimals
 unfoldable pub fixed_text : ℕ → ℕ → List ℕ
 fixed_text places value = decimal (value / 10 ^ places) ++ (46 ∷ zero_padded places (value % 10 ^ places))

@@ -1,4 +1,4 @@
--- Tables and hops as they are once they are filled.
+-- Tables and route ends as they are once they are filled.
 use Rattle.std.proofs.Common.{◌≡◌, ℕ, ◌*◌, ◌<◌, ◌≤◌, List, length, refl, sym, subst, arith}
 use Rattle.unit_duals.specs.Cells.{cell, IsTable}
 use Rattle.unit_duals.specs.Lengths.{UnitLegs, AreLegs, stops, trunk_leg}
@@ -49,7 +49,7 @@ tables_made s l turned back room size count hubs trunk last is_turned is_back fe
           (λ t e j earlier place below far. (let b = back_cell e j (omega (arith, place, earlier)) below in omega (arith, far, b))) home;
     }
 
--- the hops, found in the legs, are what the hops are to hold
+-- the route ends, found in the legs, are what the workspace is to hold
 pub hops_found : (s : HopsInside) (l : UnitLegs) (lasts lengths : List ℕ) → HasHopRoom s → s.size ≡ l.size → s.count ≡ l.count → s.hubs ≡ l.hubs
     → s.trunk.items ≡ l.trunk → s.last.items ≡ l.last → s.lasts.items ≡ lasts → s.lengths.items ≡ lengths → AreLegs l
     → length lasts ≡ l.hubs * l.size → length lengths ≡ l.hubs * l.size

@@ -1,4 +1,4 @@
--- One value as one more earlier place asks: what is spared is asked already by hubs.
+-- One value as one more earlier place asks: where that is spared, hubs ask as much already.
 use Rattle.std.proofs.Common.{◌≡◌, ℕ, ◌+◌, ◌-◌, ◌<◌, ◌≤◌, ◌⊎◌, sym, subst, ⊎_elim, arith}
 use Rattle.std.proofs.lemmas.Bool.{cases_lt}
 use Rattle.unit_duals.specs.Values.{Origin, length_by, IsTight, at_nothing, at_back, at_reach, at_forth, at_home, IsValue}

@@ -1,11 +1,11 @@
--- What the hops hold.
+-- The route ends in the workspace, each from a hub by a last hub to a destination.
 use Rattle.std.specs.Prelude.{◌≡◌, ◌*◌, ◌≤◌, length, vec_capacity}
 use Rattle.unit_duals.specs.Limits.{most_room}
 use Rattle.unit_duals.specs.Lengths.{UnitLegs, AreLegs}
 use Rattle.unit_duals.specs.Hops.{AreBestHops, AreHopLengths}
 use Rattle.unit_duals.specs.declared.hops.Hops.TheInside.{Inside}
 
--- the legs that the hops were found in
+-- the legs that they were found in
 abbrev pub hop_legs : Inside → UnitLegs
 hop_legs s = record { size = s.size; count = s.count; hubs = s.hubs; trunk = s.trunk.items; last = s.last.items }
 

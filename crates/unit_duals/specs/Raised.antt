@@ -1,4 +1,4 @@
--- What becomes of values that are raised to what is asked of them.
+-- What becomes of values that are raised to what ways ask of them.
 use Rattle.std.specs.Prelude.{◌≡◌, ◌≢◌, ℕ, ◌+◌, ◌-◌, ◌<◌, ◌≤◌, ◌⊎◌, max, List, slice_index}
 use Rattle.unit_duals.specs.Cells.{cell}
 use Rattle.unit_duals.specs.Lengths.{UnitLegs, trunk_leg, last_leg}
@@ -33,14 +33,14 @@ IsSparedHome l first reach t e j =
 abbrev pub left_beside : List ℕ → List ℕ → ℕ → ℕ → ℕ
 left_beside rest last base j = slice_index rest j - (base + slice_index last j)
 
--- from `at` on, the values of the first count nodes of the list are raised to what is asked; no other value changes
+-- from `at` on, the values of the first count nodes of the list are raised to what ways ask; no other value changes
 pub record IsRaised (at : ℕ) (nodes : List ℕ) (asked : ℕ → ℕ) (count : ℕ) (old new : List ℕ) : Type 0 where
   pub grown : (x : ℕ) → slice_index old x ≤ slice_index new x
   pub met : (y : ℕ) → y < count → asked (slice_index nodes y) ≤ slice_index new (at + slice_index nodes y)
   pub tight : (x : ℕ) → (slice_index new x ≡ slice_index old x)
       ⊎ ((y : ℕ) × (y < count) × (x ≡ at + slice_index nodes y) × (slice_index new x ≡ asked (slice_index nodes y)))
 
--- the row t is raised to what is asked wherever that is not spared; no other row changes
+-- the row t is raised to what ways ask wherever that is not spared; no other row changes
 pub record IsRowRaised (n t : ℕ) (asked : ℕ → ℕ) (spared : ℕ → Type 0) (old new : List ℕ) : Type 0 where
   pub others : (s j : ℕ) → s ≢ t → j < n → cell n new s j ≡ cell n old s j
   pub grown : (j : ℕ) → j < n → cell n old t j ≤ cell n new t j

@@ -116,7 +116,7 @@ impl Hops {
         }
     }
 
-    /// The best hop from the hub number `x` to the destination.
+    /// The best route end from the hub number `x` to the destination.
     fn hop(&self, x: usize, j: usize) -> Hop
         requires hub { x < self.now.legs.hubs }
         requires destination { j < self.now.legs.size }
@@ -133,7 +133,7 @@ impl Hops {
     }
 }
 
-/// Finds the best hop from each hub to each destination.
+/// Finds the best route end from each hub to each destination.
 fn set_hops(legs: &Legs, lasts: &mut [u32], lengths: &mut [u64])
     requires lasts { length lasts.old ≡ legs.now.hubs * legs.now.size }
     requires lengths { length lengths.old ≡ legs.now.hubs * legs.now.size }
@@ -150,7 +150,7 @@ fn set_hops(legs: &Legs, lasts: &mut [u32], lengths: &mut [u64])
     }
 }
 
-/// The first of the shortest hops from the hub number `x` to the destination.
+/// The first of the shortest route ends from the hub number `x` to the destination.
 fn best_hop(legs: &Legs, x: usize, j: usize) -> Hop
     requires hub { x < legs.now.hubs }
     requires destination { j < legs.now.size }

@@ -3,15 +3,15 @@
 //!
 //! It knows no instance: lengths come in as tables of legs between stops, the places of an order and then the hubs.
 //! In the order of reading: `legs` (the tables that come in), `hops` (the shortest routes by hubs alone, for an
-//! assignment), `tables` (what is worked out once for a cut: least lengths by a hub, and for each place and each
-//! earlier place the list of the destinations that are near; made by `filling` and `nearby`), `duals` (what is worked
-//! out of one origin: prices by `lengths`, then the values of all places for all destinations by `turns`).
+//! assignment). Then `tables` (what is computed once for a cut), made by `filling` and `nearby`: least lengths by a
+//! hub, and for each place and each earlier place the list of the destinations that are near. Last `duals` (what is
+//! computed for one origin: prices by `lengths`, then the values of all places for all destinations by `turns`).
 //!
-//! Least lengths by a hub are made by `lowering`, over `stretches` of a list: by the nearest hub first, and then by those
-//! hubs alone that are near enough to be of use.
+//! `lowering` makes least lengths by a hub, over `stretches` of a list. It takes the nearest hub first, and then only
+//! those hubs that are near enough to be of use.
 //!
-//! Two places ask nothing of each other for a destination where the way by both is no shorter than a way by hubs that
-//! is asked already. So the values of a place are raised along near lists alone (`raising`), and only where the way
+//! Two places ask nothing of each other for a destination where the way by both is no shorter than a way by hubs,
+//! which asks already. So the values of a place are raised along near lists alone (`raising`), and only where the way
 //! from the origin to the second place by the first is shorter than all others.
 #![tactic(auto)]
 

@@ -1,4 +1,4 @@
--- The cut of any values is one of the problem: its sums are within the sum rule, and its numbers in range.
+-- The sums of the Benders cut from any dual values, commodity by commodity: they are within the limit.
 use Rattle.std.proofs.Common.{◌≡◌, ℕ, ◌+◌, ◌*◌, ◌/◌, ◌%◌, ◌<◌, ◌≤◌, List, take, sum, sum_by, slice_index, slice_range, ap, ap₂, sym, ◌∙◌, div-add-mod', arith}
 use Rattle.std.proofs.lemmas.List.Sums.{sum_by-take-le, sum_by_push}
 use Rattle.hub_spec.specs.Limits.{most_cost}

@@ -1,4 +1,4 @@
--- The dual that is lent, and the room that was taken for it.
+-- The borrowed dual, and the memory that is reserved for it.
 use Rattle.std.specs.Prelude.{ℕ, ◌≤◌, vec_capacity}
 use Rattle.hub_spec.specs.Cuts.{Prices}
 use Rattle.hub_model.specs.Amounts.{natural}

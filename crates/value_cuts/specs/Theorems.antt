@@ -1,4 +1,4 @@
--- What is proved of the duals and the cuts of any values.
+-- What is proved of the duals and the Benders cuts from any dual values.
 use Rattle.std.specs.Prelude.{◌≡◌, ℕ, ◌*◌, ◌≤◌, List, Contains}
 use Rattle.hub_spec.specs.Problem.{Problem, IsProblem, flow}
 use Rattle.hub_spec.specs.Cuts.{Prices, value_at, IsDual, IsCut}

@@ -7,7 +7,7 @@ pub fn value_dual_is_dual()
     ensures { ValueDualIsDual }
 {}
 
-/// The cut of any values is a Benders cut of the instance.
+/// The Benders cut from any dual values is a cut of the instance.
 pub fn value_cut_is_cut()
     ensures { ValueCutIsCut }
 {}

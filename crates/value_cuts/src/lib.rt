@@ -1,16 +1,16 @@
-//! The Benders cut of any dual values, made feasible: each price is lowered to what allowed routes permit, by one worker or
-//! several.
+//! The Benders cut of any dual values, made feasible: each price is lowered to what allowed routes permit, by one
+//! worker or several.
 //!
-//! A search without proofs may advise values for each commodity, found in whatever way. Here the price of each commodity is
-//! lowered to what its values allow on allowed routes, so that its dual is feasible by construction, and the duals of all
-//! commodities are a cut of the instance, within its sums (`laws`). Nothing of the advice is trusted. Workers side by side
+//! A heuristic may propose any dual values for each commodity. Here the price of each commodity is lowered to what its
+//! values permit on allowed routes. So its dual is feasible by construction. The duals of all commodities are a Benders
+//! cut of the instance, within its sums (`laws`). Nothing of the heuristic's proposal is trusted. Workers side by side
 //! set the prices that one worker sets, whatever their number and however their threads run.
 //!
-//! Values are those of `cut_model`: a row of small numbers for each commodity, over the tables of `leg_duals`. In the order
-//! of reading: `pricing` (the prices), `allowed` (the same where the length of routes is limited), `origins`, `rows` and
-//! `workers` (a row of prices for each origin, by a worker pool), `sums` (total and loads of the cut), `duals` (its duals, lent
-//! one by one). A place is the number of a candidate in their order, from 0. Lengths and values by unit of flow are in 10^-6,
-//! costs in 10^-12.
+//! Values are those of `cut_model`: a row of small numbers for each commodity, over the tables of `leg_duals`. In the
+//! order of reading: `pricing` (the prices) and `allowed` (the same where the length of routes is limited); then
+//! `origins`, `rows` and `workers` (a row of prices for each origin, by a worker pool); then `sums` (total and loads of
+//! the cut) and `duals` (its duals, borrowed one by one). A place is the number of a candidate in their order, from 0.
+//! Lengths and values by unit of flow are in 10^-6, costs in 10^-12.
 #![tactic(auto)]
 
 mod allowed;

@@ -10,8 +10,8 @@ use crate::duals::offset_of;
 use crate::pricing::value_of;
 use crate::{CandidateLegs, PriceScratch, Values, set_prices};
 
-/// The total of the cut of the values, in 10^-12. It sets `prices`, per unit of flow, one for each commodity. It sets
-/// `loads`, one for each node, which are 0 for nodes that are no candidates. It allocates nothing.
+/// The total of the Benders cut from these dual values, in 10^-12. It sets `prices`, per unit of flow, one for each
+/// commodity. It sets `loads`, one for each node, which are 0 for nodes that are no candidates. It allocates nothing.
 pub fn cut_sums(
     tables: &CandidateLegs,
     values: &Values,
@@ -32,7 +32,8 @@ pub fn cut_sums(
     sums_of(tables, values, prices, loads)
 }
 
-/// The total of the cut of the values with known prices, in 10^-12. It sets `loads`, one for each node.
+/// The total of the Benders cut from these dual values, whose prices are known, in 10^-12. It sets `loads`, one for
+/// each node.
 pub fn sums_of(tables: &CandidateLegs, values: &Values, prices: &[u64], loads: &mut [u128]) -> u128
     requires values { AreValuesFor tables.now values.now }
     requires prices { AreRowPrices tables.now values.now prices.now }

@@ -1,8 +1,10 @@
-//! The start of a search from an older certificate: its cuts and its hubs for `resolve`, its dual values for `optimize --from`.
+//! The start of a search from an older certificate: its cuts and its hubs for `resolve`, its dual values for
+//! `optimize --from`.
 //!
-//! Which certificates serve is for `cert_checker` to say: `check_cuts`, `read_older` and `read_sized`. [`start_of`] makes of such
-//! a certificate what `resolve` begins with. [`first_values`] makes of the cut that says most of the instance a list of values
-//! of the candidates, as advice has them; nothing is claimed of these. Costs are in 10^-12.
+//! The crate `cert_checker` decides which certificates may be used: `check_cuts`, `read_older` and `read_sized`.
+//! [`start_of`] makes of such a certificate the start of `resolve`. [`first_values`] makes of the cut with the greatest
+//! bound at the root a list of dual values of the candidates, in the form of a heuristic's proposal. Nothing is claimed
+//! of these. Costs are in 10^-12.
 #![tactic(auto)]
 
 mod starts;

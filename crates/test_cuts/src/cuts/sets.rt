@@ -78,7 +78,7 @@ fn ordered(
     format!(in alloc; "{order:?}")
 }
 
-/// The set and the ascending order of the candidates outside it, and what is asked of them.
+/// The answer to the line, for the set and the ascending order of the candidates outside it.
 fn over_order(
     alloc: Global,
     instance: &Instance,

@@ -89,7 +89,7 @@ fn fill_all(values: &mut Values, row: &[u32])
     }
 }
 
-/// The total and the loads of the cut of the values.
+/// The total and the loads of the Benders cut from the dual values.
 fn sums(alloc: Global, instance: &Instance, values: &Values) -> Result<String, AllocError>
     requires { AreValuesFor instance.now values.now }
 {

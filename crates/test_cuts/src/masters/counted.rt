@@ -12,10 +12,11 @@ use leaf_bound::Weighting;
 use p_hub::{bound_p, closes_p, fix_p, pick};
 use std::alloc::{AllocError, Global};
 
-// The greatest target that there may be.
+// The greatest cutoff that there may be.
 const MOST_TARGET: u128 = 1_000_000_000_000_000_000_000_000_000_000;
 
-/// The bound of the line's branch, and for each target whether the bound closes it, and else which candidates it fixes.
+/// The bound of the line's branch, and for each cutoff whether the bound fathoms it, and else which candidates it
+/// fixes.
 pub(crate) fn told(alloc: Global, text: &str) -> Result<String, AllocError> {
     let (p, rest) = parted(text, ';');
     let (signs, rest) = parted(rest, ';');
@@ -62,7 +63,7 @@ fn weighed(
     Ok(told)
 }
 
-// Whether as many as are wanted can be hubs.
+// Whether the branch can have exactly `p` hubs.
 fn has_room(branch: &Branch, p: u32) -> bool
     ensures { IsTrue result → HasRoom (Some p) branch.now }
 {
@@ -76,7 +77,7 @@ fn is_between(branch: &Branch, p: u32) -> bool
     branch.inside().len() < p as usize && (p as usize) < branch.inside().len() + branch.free().len()
 }
 
-// Whether the bound leaves the target open.
+// Whether the bound leaves the branch open at the cutoff.
 fn is_open(weighting: &Weighting, branch: &Branch, target: u128, p: u32) -> bool
     requires numbers { AreWeightingNumbers weighting.now }
     requires nodes { IsBranchWithin weighting.now branch.now }

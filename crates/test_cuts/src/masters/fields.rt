@@ -26,7 +26,7 @@ pub(crate) fn parted(text: &str, mark: char) -> (&str, &str) {
     }
 }
 
-/// Cuts as they are lent: the total of each, its load of each node and its part, and the fixed cost of each node.
+/// The cuts of a case: the total of each, its load of each node and its part, and the fixed cost of each node.
 #[derive(Drop)]
 pub(crate) struct Lent {
     pub(crate) totals: Vec<u128>,
@@ -35,9 +35,9 @@ pub(crate) struct Lent {
     pub(crate) fixed: Vec<u128>,
 }
 
-/// The fixed costs in the first field, and in each of the others a cut, its total and then its loads, with the word `part`
-/// its part before them, or cuts of the same loads: the word `cuts`, how many they are, and the total of the first, which
-/// rises by one.
+/// Reads the fixed costs from the first field, and from each of the others a cut: its total and then its loads, with
+/// the word `part` its part before them. Or a field has cuts of the same loads: the word `cuts`, how many they are, and
+/// the total of the first, which rises by one.
 pub(crate) fn cuts_of(alloc: Global, text: &str) -> Result<Lent, AllocError> {
     let (fixed, cuts) = parted(text, ';');
     let mut lent = Lent {

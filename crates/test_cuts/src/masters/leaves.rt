@@ -10,10 +10,10 @@ use hub_model::Branch;
 use leaf_bound::{Weighting, bound, closes, gain};
 use std::alloc::{AllocError, Global};
 
-// The greatest target that there may be.
+// The greatest cutoff that there may be.
 const MOST_TARGET: u128 = 1_000_000_000_000_000_000_000_000_000_000;
 
-/// The bound of the line's branch, the gain of each node, and for each target whether the bound closes it, and else
+/// The bound of the line's branch, the gain of each node, and for each cutoff whether the bound fathoms it, and else
 /// which candidates it fixes.
 pub(crate) fn told(alloc: Global, text: &str) -> Result<String, AllocError> {
     let (signs, rest) = parted(text, ';');

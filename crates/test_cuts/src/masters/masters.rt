@@ -10,7 +10,7 @@ use frac_master::{Advice, advise, advise_by_totals, rows_of};
 use hub_model::Branch;
 use std::alloc::{AllocError, Global};
 
-/// What is asked of the master of a line: its first table, what it advises, or what it advises by totals.
+/// The answer of the line's master: its first tableau, its weights and point, or these for loads within their totals.
 pub(crate) fn told(alloc: Global, word: &str, text: &str) -> Result<String, AllocError> {
     let (signs, rest) = parted(text, ';');
     let lent = cuts_of(alloc, rest)?;
@@ -79,7 +79,7 @@ fn read(alloc: Global, found: &Advice) -> Result<String, AllocError> {
     )
 }
 
-// The rows, each lent.
+// The rows, each as a slice.
 fn views(alloc: Global, rows: &[Vec<u128>]) -> Result<Vec<&[u128]>, AllocError>
     ensures { IfOk result (λ views. map (λ row. row.now) views.items ≡ map (λ v. v.items) rows.now) }
 {

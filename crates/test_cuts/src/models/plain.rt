@@ -93,7 +93,7 @@ fn route(
     format!(in alloc; "{route:?}")
 }
 
-/// What is asked of the set of these hubs.
+/// The answer to the line, for the set of these hubs.
 fn with_set(
     alloc: Global,
     instance: &Instance,

@@ -20,7 +20,7 @@ numbers p k n totals loads parts ok are own least most is_totals is_loads is_par
     rw (is_totals, map-slice_range (λ (v : Vec ℕ Global). v.items) loads (n - 1) (n - 1 + 1), is_loads, is_parts)
     (kept_at_number p k n ok are own least most)
 
--- the numbers of the kept cut
+-- the numbers of the stored cut
 on_cut : (c : After-cut_weighting-weighting) → let p = c.args.task.now.instance.now in
     IsOnCut p (cut_at (cuts_of p c.args.progress.now) c.args.number) c.cut_weighting-weighting.result
 on_cut c =

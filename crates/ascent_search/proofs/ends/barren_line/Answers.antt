@@ -7,7 +7,7 @@ use Rattle.ascent_search.proofs.BranchEnds.{lines_told, none_told, number_barren
 use Rattle.ascent_search.proofs.ends.barren_line.Goals as goal
 use Rattle.ascent_search.proofs.ends.barren_line.Goals.{After-end_by_number}
 
--- what is told of the numbers of the branch
+-- the line that ends the branch by its numbers, if there is one
 told : (c : After-end_by_number)
     → lines_told c.end_by_number.result ≡ option_map preorder (barren_end c.args.instance.now.wanted c.args.branch.now)
 told c =

@@ -5,7 +5,7 @@ use Rattle.ascent_search.proofs.BranchEnds.{only_last, free_left}
 use Rattle.ascent_search.proofs.ends.last_set.Goals as goal
 use Rattle.ascent_search.proofs.ends.last_set.Goals.{After-deref}
 
--- what is told of the set
+-- the one set that is left, if there is one, as a list
 abbrev told : Option (Vec ℕ Global) → Option (List ℕ)
 told only = option_map (λ (hubs : Vec ℕ Global). hubs.items) only
 

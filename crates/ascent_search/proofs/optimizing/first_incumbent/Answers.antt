@@ -6,7 +6,7 @@ use Rattle.ascent_search.proofs.Findings.{as_wanted, first_alone}
 use Rattle.ascent_search.proofs.optimizing.first_incumbent.Goals as goal
 use Rattle.ascent_search.proofs.optimizing.first_incumbent.Goals.{After-first_hubs}
 
--- they are those with which a search begins that is given none
+-- they are those with which a search begins that gets none
 firsts : (c : After-first_hubs) → AreFirstHubs c.args.task.now.instance.now c.first_hubs.result.now
 firsts c = first_are c.args.task.now.instance.now c.first_hubs.result.now c.first_hubs.ensures.problem c.requires.lacks_none c.first_hubs.ensures.first
 

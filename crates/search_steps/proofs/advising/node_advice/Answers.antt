@@ -14,7 +14,7 @@ use Rattle.search_steps.proofs.advising.node_advice.Goals as goal
 use Rattle.search_steps.proofs.advising.node_advice.Given.{Over}
 use Rattle.search_steps.proofs.advising.node_advice.Goals.{After-deref, After-lower}
 
--- the rows that are read are those that the pool tells
+-- the rows that are read are those of the pool
 told_rows : (rows lent : List (Bor (List ℕ))) (entries : List Entry) → rows ≡ lent → map (λ row. row.now) lent ≡ unit_loads entries
     → map (λ row. row.now) rows ≡ unit_loads entries
 told_rows rows lent entries same told = ap (map (λ (row : Bor (List ℕ)). row.now)) same ∙ told

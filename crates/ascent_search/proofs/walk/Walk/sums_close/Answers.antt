@@ -7,7 +7,7 @@ use Rattle.ascent_search.proofs.SingleBounds.{cut_numbers, cut_within, cut_bound
 use Rattle.ascent_search.proofs.walk.Walk.sums_close.Goals as goal
 use Rattle.ascent_search.proofs.walk.Walk.sums_close.Goals.{After-cut_weighting-weighting}
 
--- the numbers of the cut, as they are lent
+-- the numbers of the cut, as arguments
 on_cut : (c : After-cut_weighting-weighting) (cut : Cut) → let t = c.args.self.now.task.now in
     AreLoads t.instance.now cut c.args.total c.args.self.now.bench.loads
     → IsOnCut t.instance.now cut c.cut_weighting-weighting.result

@@ -40,7 +40,7 @@ returns-in-None g c =
     c.weighting-lent.ensures c.requires.branch hubs made stop)
     c.fix.ensures
 
--- ---- just so many
+-- ---- exactly p hubs
 
 pub fix_p-requires-clause-numbers : goal.fix_p-requires-clause-numbers
 fix_p-requires-clause-numbers g c = weighting_numbers c.args.weighed.now c.weighting-lent.result c.weighting-lent.ensures

@@ -27,7 +27,7 @@ returns-in-None-clause-set g c = λ ok.
     (λ set is. pick_is_set c.args.instance.now (told_by (advice_of_code c.args.advice.now)) c.args.branch.now set ok c.requires.branch c.requires.goes_on is)
     (returns-in-None-clause-picked g c)
 
--- ---- just so many
+-- ---- exactly p hubs
 
 pub pick-requires-clause-some : goal.pick-requires-clause-some
 pick-requires-clause-some g c =
