@@ -9,3 +9,4 @@ pub mod SetLeaves
 pub mod Findings
 pub mod Walks
 pub mod Ungapped
+pub mod Offsets

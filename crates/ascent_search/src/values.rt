@@ -11,7 +11,7 @@ ghost use Rattle.ascent_search.specs.Walking.{IsWalking, IsSameWalk};
 
 use crate::progress::may_split;
 use crate::walk::Walk;
-use hub_model::Branch;
+use hub_model::{Branch, Instance};
 use std::alloc::AllocError;
 use std::thread::Threads;
 
@@ -36,7 +36,7 @@ impl Walk<'_> {
             self.alloc,
             self.task.workers,
             values,
-            self.some_open(branch),
+            some_open(self.task.instance, branch),
         )?;
         let closes = self.sums_close(branch, total)?;
         if !closes && may_split(self.task, &self.progress) {
@@ -44,14 +44,6 @@ impl Walk<'_> {
         }
         self.end_by_sums(branch, total, closes)?;
         Ok(true)
-    }
-
-    // Nodes of the branch of which one is open in each wanted hub set, where it has no hub yet and any number is wanted.
-    fn some_open<'b>(&self, branch: &'b Branch) -> &'b [u32] {
-        if self.task.instance.wanted().is_none() && branch.inside().is_empty() {
-            return branch.free();
-        }
-        &[]
     }
 
     // Stores the cut of the last values, and ends the branch: with the leaf on that cut, if it fathoms at the cutoff,
@@ -93,4 +85,12 @@ impl Walk<'_> {
         let cut = self.bench.kept_values(self.alloc)?;
         self.keep(cut, total)
     }
+}
+
+// Nodes of the branch of which one is open in each wanted hub set, where it has no hub yet and any number is wanted.
+fn some_open<'b>(instance: &Instance, branch: &'b Branch) -> &'b [u32] {
+    if instance.wanted().is_none() && branch.inside().is_empty() {
+        return branch.free();
+    }
+    &[]
 }

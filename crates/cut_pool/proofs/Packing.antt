@@ -135,13 +135,6 @@ rows_unpacked s w i x rows ok view below is rows_are =
     } in
     subst (λ (v : ValueRows). AreRowsFrom v i rows) view here
 
--- the values of an instance, packed
-pub pack_view : (w : ValueRows) (size places unit : ℕ) (lists : List (Vec Item Global)) → size ≡ w.size → places ≡ w.places → unit ≡ w.unit
-    → all_unpacked (size * places) lists ≡ w.items
-    → record { size = size; places = places; unit = unit; items = all_unpacked (size * places) lists } ≡ w
-pack_view w size places unit lists sizes all units items =
-    λ i. record { size = sizes i; places = all i; unit = units i; items = items i }
-
 pub small_cells : (p : Problem) → IsProblem p → p.size * length p.candidates ≤ most_nodes * most_nodes
 small_cells p ok =
     let few = few_candidates p.candidates p.size ok.candidates_ascend ok.candidates_are_nodes in
