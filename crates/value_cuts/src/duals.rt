@@ -7,9 +7,10 @@ ghost use Rattle.hub_spec.specs.Separation.{values_listed, AreListedValues};
 ghost use Rattle.hub_model.specs.Prices.{signed_values, AreSignedPrices};
 ghost use Rattle.cut_model.specs.ValueRows.{node_value, allowed_price, value_dual, offset_of};
 
+use crate::offsets::offset_of;
 use crate::pricing::value_of;
 use crate::{CandidateLegs, ListedRow};
-use hub_model::{Instance, list_value, signed};
+use hub_model::{list_value, signed};
 use std::alloc::{AllocError, Global};
 use std::marker::Model;
 
@@ -91,17 +92,6 @@ fn flow_between(tables: &CandidateLegs, i: u32, j: u32) -> u64
     ensures limit { result ≤ most_flow }
 {
     tables.instance().flow_between(i, j)
-}
-
-/// The offset of the commodity from `i` to `j`, where that of the first one is given, in 10^-12.
-pub(crate) fn offset_of(instance: &Instance, offset: u128, i: u32, j: u32) -> u128
-    ensures value { result ≡ offset_of instance.now offset (i, j) }
-    ensures limit { result ≤ most_cost }
-{
-    if i > 0 || j > 0 {
-        return 0;
-    }
-    offset.min(instance.opening_cost(instance.candidates()))
 }
 
 /// Lists the candidates whose value, the offset and the flow times what the row lists, is above 0.

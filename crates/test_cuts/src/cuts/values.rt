@@ -7,7 +7,7 @@ ghost use Rattle.cut_model.specs.HeldRows.{IsSameShape};
 use super::texts::{dual_told, sums_told};
 use hub_model::Instance;
 use std::alloc::{AllocError, Global};
-use test_lines::{list, node};
+use test_lines::{list, node, number};
 use value_cuts::{
     CandidateLegs, DualScratch, ListedRow, PriceScratch, Values, cut_sums, price, set_prices,
 };
@@ -25,7 +25,7 @@ pub fn asked(alloc: Global, instance: &Instance, line: &str) -> Result<String, A
         unit: node(line, " unit "),
         row: &row,
     };
-    let offset = u128::from(node(line, " offset "));
+    let offset = u128::from(number(line, " offset ").unwrap_or(0));
     if line.starts_with("value_dual") {
         return of_commodity(alloc, instance, i, j, &row, offset);
     }
