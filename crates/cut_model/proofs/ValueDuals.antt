@@ -1,5 +1,5 @@
 -- The dual of any values is feasible, and no price above its own is.
-use Rattle.std.proofs.Common.{◌≡◌, ◌≢◌, ℕ, ◌+◌, ◌*◌, ◌<◌, ◌≤◌, nat_eq, true, if◌then◌else◌, List, length, All, Contains, ◌⊎◌, inl, inr, ⊎_elim, refl, ap, ap₂, sym, ◌∙◌, eq-eqb, ne_eqb, eqb-true, mul-add, mul-le-mul_left, arith}
+use Rattle.std.proofs.Common.{◌≡◌, ◌≢◌, ℕ, ◌+◌, ◌*◌, ◌<◌, ◌≤◌, nat_eq, true, if◌then◌else◌, List, length, All, Contains, inl, ⊎_elim, refl, ap, ap₂, sym, ◌∙◌, eq-eqb, ne_eqb, eqb-true, mul-add, mul-le-mul_left, arith}
 use Rattle.std.proofs.lemmas.Bool.{cases_lt, eqb-false, false≢true}
 use Rattle.std.proofs.lemmas.List.{get_or_default}
 use Rattle.std.proofs.lemmas.List.Elements.{All-weaker, Contains-get_or}
