@@ -9,4 +9,3 @@ pub mod SetLeaves
 pub mod Findings
 pub mod Walks
 pub mod Ungapped
-pub mod Offsets

@@ -71,8 +71,8 @@ impl Pricing {
         )
     }
 
-    /// Computes the loads of the Benders cut from the values, whose prices are known, and returns its total. Where one of these
-    /// nodes is open, the offset is the least difference of fixed cost and load over them, if it is above 0.
+    /// Computes the loads of the Benders cut from the values, whose prices are known, and returns its total. Where one
+    /// of these nodes is open, the offset is the least difference of fixed cost and load over them, if it is above 0.
     pub(crate) fn sum(&mut self, tables: &CandidateLegs, some_open: &[u32]) -> u128
         requires fit { IsPricingFor tables.now self.old }
         requires prices { AreRowPrices tables.now self.old.values self.old.prices.items }
