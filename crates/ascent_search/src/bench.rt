@@ -55,14 +55,15 @@ impl<'a> Bench<'a> {
         })
     }
 
-    /// Takes the values, computes the exact prices of their cut by 1 to 64 workers, and returns its total. With one
-    /// worker it takes no memory.
+    /// Takes the values, computes the exact prices of their cut by 1 to 64 workers, and returns its total. One of the
+    /// nodes `some_open` is open, unless there are none. With one worker it takes no memory.
     pub(crate) fn value_sums<R: Threads + Sync>(
         &mut self,
         rt: &R,
         alloc: Global,
         workers: u32,
         values: &[u32],
+        some_open: &[u32],
     ) -> Result<u128, AllocError>
         requires workers { (1 ≤ workers) × (workers ≤ 64) }
         ensures problem { self.new.problem ≡ self.old.problem }
@@ -71,7 +72,7 @@ impl<'a> Bench<'a> {
     {
         self.pricing.take(values);
         self.pricing.price(rt, alloc, &self.tables, workers)?;
-        Ok(self.pricing.sum(&self.tables))
+        Ok(self.pricing.sum(&self.tables, some_open))
     }
 
     /// The stored form of the Benders cut from the last dual values, from which it can be computed again.

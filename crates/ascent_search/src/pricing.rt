@@ -39,10 +39,11 @@ impl Pricing {
         })
     }
 
-    /// Sets the values, as far as both lists go.
+    /// Sets the values, as far as both lists go, without an offset.
     pub(crate) fn take(&mut self, values: &[u32])
         ensures { (p : Problem) → IsPricingFor p self.old → IsPricingFor p self.new }
     {
+        self.values.set_offset(0);
         copy_values(values, self.values.rows_mut());
     }
 
@@ -70,15 +71,47 @@ impl Pricing {
         )
     }
 
-    /// Computes the loads of the Benders cut from the values, whose prices are known, and returns its total.
-    pub(crate) fn sum(&mut self, tables: &CandidateLegs) -> u128
+    /// Computes the loads of the Benders cut from the values, whose prices are known, and returns its total. Where one
+    /// of these nodes is open, the offset is the least difference of fixed cost and load over them, if it is above 0.
+    pub(crate) fn sum(&mut self, tables: &CandidateLegs, some_open: &[u32]) -> u128
         requires fit { IsPricingFor tables.now self.old }
         requires prices { AreRowPrices tables.now self.old.values self.old.prices.items }
         ensures fit { IsPricingFor tables.now self.new }
         ensures sums { AreLoads tables.now (value_cut tables.now self.new.values) result self.new.loads.items }
     {
+        let total = self.sum_loads(tables);
+        let offset = least_rest(tables.instance().fixed_costs(), &self.loads, some_open);
+        if offset == 0 {
+            return total;
+        }
+        self.values.set_offset(offset);
+        self.sum_loads(tables)
+    }
+
+    // Computes the loads for the offset that is set, and returns the total.
+    fn sum_loads(&mut self, tables: &CandidateLegs) -> u128
+        requires fit { IsPricingFor tables.now self.old }
+        requires prices { AreRowPrices tables.now self.old.values self.old.prices.items }
+        ensures fit { IsPricingFor tables.now self.new }
+        ensures prices { AreRowPrices tables.now self.new.values self.new.prices.items }
+        ensures sums { AreLoads tables.now (value_cut tables.now self.new.values) result self.new.loads.items }
+    {
         sums_of(tables, &self.values, &self.prices, &mut self.loads)
     }
+}
+
+// The least of what the nodes' fixed costs are above their loads, 0 for no node.
+fn least_rest(fixed: &[u128], loads: &[u128], nodes: &[u32]) -> u128 {
+    if nodes.is_empty() {
+        return 0;
+    }
+    let mut least = u128::MAX;
+    for k in nodes {
+        let own = fixed.get(*k as usize).copied().unwrap_or(0);
+        let load = loads.get(*k as usize).copied().unwrap_or(0);
+        least = least.min(own.saturating_sub(load));
+    }
+    least
 }
 
 // Copies the values, as far as both lists go.

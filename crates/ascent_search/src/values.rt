@@ -11,7 +11,7 @@ ghost use Rattle.ascent_search.specs.Walking.{IsWalking, IsSameWalk};
 
 use crate::progress::may_split;
 use crate::walk::Walk;
-use hub_model::Branch;
+use hub_model::{Branch, Instance};
 use std::alloc::AllocError;
 use std::thread::Threads;
 
@@ -31,9 +31,13 @@ impl Walk<'_> {
         ensures same { IsSameWalk self.old self.new }
         ensures advised { IfOk result (λ ended. IsAdvised self.old.task.now branch.now self.old.progress self.new.progress ended) }
     {
-        let total = self
-            .bench
-            .value_sums(rt, self.alloc, self.task.workers, values)?;
+        let total = self.bench.value_sums(
+            rt,
+            self.alloc,
+            self.task.workers,
+            values,
+            some_open(self.task.instance, branch),
+        )?;
         let closes = self.sums_close(branch, total)?;
         if !closes && may_split(self.task, &self.progress) {
             return Ok(false);
@@ -81,4 +85,12 @@ impl Walk<'_> {
         let cut = self.bench.kept_values(self.alloc)?;
         self.keep(cut, total)
     }
+}
+
+// Nodes of the branch of which one is open in each wanted hub set, where it has no hub yet and any number is wanted.
+fn some_open<'b>(instance: &Instance, branch: &'b Branch) -> &'b [u32] {
+    if instance.wanted().is_none() && branch.inside().is_empty() {
+        return branch.free();
+    }
+    &[]
 }

@@ -1,5 +1,5 @@
 -- The dual of any values is feasible, and no price above its own is.
-use Rattle.std.proofs.Common.{◌≡◌, ◌≢◌, ℕ, ◌+◌, ◌*◌, ◌<◌, ◌≤◌, nat_eq, true, if◌then◌else◌, List, length, All, Contains, ◌⊎◌, inl, inr, ⊎_elim, refl, ap, ap₂, sym, ◌∙◌, eq-eqb, ne_eqb, eqb-true, mul-add, mul-le-mul_left, arith}
+use Rattle.std.proofs.Common.{◌≡◌, ◌≢◌, ℕ, ◌+◌, ◌*◌, ◌<◌, ◌≤◌, nat_eq, true, if◌then◌else◌, List, length, All, Contains, inl, ⊎_elim, refl, ap, ap₂, sym, ◌∙◌, eq-eqb, ne_eqb, eqb-true, mul-add, mul-le-mul_left, arith}
 use Rattle.std.proofs.lemmas.Bool.{cases_lt, eqb-false, false≢true}
 use Rattle.std.proofs.lemmas.List.{get_or_default}
 use Rattle.std.proofs.lemmas.List.Elements.{All-weaker, Contains-get_or}
@@ -9,12 +9,12 @@ use Rattle.hub_spec.specs.Cuts.{Prices, value_at, IsDual}
 use Rattle.hub_spec.specs.Separation.{values_listed}
 use Rattle.hub_spec.proofs.Sets.{is_in, is_in-yes, Contains-from_is_in}
 use Rattle.hub_spec.proofs.SumLemmas.{by_test}
+use Rattle.hub_spec.proofs.SetCuts.{unlisted_value}
 use Rattle.hub_spec.proofs.SetCutFunction.{IsListed, all_listed, value_at_listed}
 use Rattle.unit_duals.specs.Leasts.{least_of}
 use Rattle.unit_duals.proofs.LeastNumbers.{least_of_le, least_of_le_start, least_of_is}
 use Rattle.hub_model.specs.CandidateLengths.{candidate_at, length_ceiling}
 use Rattle.cut_model.specs.ValueRows.{route_length, node_value, valued_length, if_allowed, allowed_price, value_dual}
-use Rattle.cut_model.proofs.NodeValues.{unlisted_none}
 
 -- ---- the price
 
@@ -101,32 +101,35 @@ pub placed : (p : Problem) (k : ℕ) → Contains p.candidates k → (x : ℕ) �
 placed p k (x, l, e) = (x, l, get_or_default p.candidates x 0 k l ∙ e)
 
 -- what a candidate's value in the dual is
-pub dual_value : (p : Problem) (unit : ℕ) (row : List ℕ) (c : ℕ × ℕ) (k : ℕ) → Contains p.candidates k
-    → value_at (value_dual p unit row c).u k ≡ flow p c.0 c.1 * node_value p unit row k
+pub dual_value : (p : Problem) (unit offset : ℕ) (row : List ℕ) (c : ℕ × ℕ) (k : ℕ) → Contains p.candidates k
+    → value_at (value_dual p unit offset row c).u k ≡ offset + flow p c.0 c.1 * node_value p unit row k
 unfolding value_dual
-dual_value p unit row c k candidate =
-    value_at_listed (λ m. flow p c.0 c.1 * node_value p unit row m) p.candidates k (inl candidate)
+dual_value p unit offset row c k candidate =
+    value_at_listed (λ m. offset + flow p c.0 c.1 * node_value p unit row m) p.candidates k (inl candidate)
 
--- what any node's value in it is
-pub dual_value_each : (p : Problem) (unit : ℕ) (row : List ℕ) (c : ℕ × ℕ) (k : ℕ)
-    → value_at (value_dual p unit row c).u k ≡ flow p c.0 c.1 * node_value p unit row k
+-- in a list of the candidates' values no other node has one
+listed_candidates : (p : Problem) (v : ℕ → ℕ) → All (λ (e : ℕ × ℕ). Contains p.candidates e.0) (values_listed v p.candidates)
+listed_candidates p v =
+    All-weaker (IsListed v p.candidates) (λ (e : ℕ × ℕ). Contains p.candidates e.0) (λ e l. l.node) (values_listed v p.candidates)
+    (all_listed v p.candidates)
+
+pub listed_none : (p : Problem) (v : ℕ → ℕ) (k : ℕ) → (Contains p.candidates k → ⊥) → value_at (values_listed v p.candidates) k ≡ 0
+listed_none p v k none = unlisted_value p.candidates (values_listed v p.candidates) k (listed_candidates p v) none
+
+-- no node's value in the dual is above that
+pub dual_value_within : (p : Problem) (unit offset : ℕ) (row : List ℕ) (c : ℕ × ℕ) (k : ℕ)
+    → value_at (value_dual p unit offset row c).u k ≤ offset + flow p c.0 c.1 * node_value p unit row k
 unfolding value_dual
-dual_value_each p unit row c k = value_at_listed (λ m. w * node_value p unit row m) p.candidates k known
-  where
-    w : ℕ
-    w = flow p c.0 c.1
+dual_value_within p unit offset row c k =
+    let v : ℕ → ℕ = λ m. offset + flow p c.0 c.1 * node_value p unit row m in
+    by_test (is_in p.candidates k)
+    (λ yes. omega (arith, value_at_listed v p.candidates k (inl (Contains-from_is_in p.candidates k yes))))
+    (λ no. omega (arith, listed_none p v k (λ there. false≢true (sym no ∙ is_in-yes p.candidates k there))))
 
-    nothing : node_value p unit row k ≡ 0 → w * node_value p unit row k ≡ 0
-    nothing none = (let e = ap (λ v. w * v) none in omega (arith, e))
-
-    known : Contains p.candidates k ⊎ (w * node_value p unit row k ≡ 0)
-    known = by_test (is_in p.candidates k) (λ yes. inl (Contains-from_is_in p.candidates k yes))
-        (λ no. inr (nothing (unlisted_none p unit row k (λ there. false≢true (sym no ∙ is_in-yes p.candidates k there)))))
-
-pub dual_price : (p : Problem) (unit : ℕ) (row : List ℕ) (c : ℕ × ℕ)
-    → (value_dual p unit row c).a ≡ flow p c.0 c.1 * allowed_price p c (node_value p unit row)
+pub dual_price : (p : Problem) (unit offset : ℕ) (row : List ℕ) (c : ℕ × ℕ)
+    → (value_dual p unit offset row c).a ≡ offset + flow p c.0 c.1 * allowed_price p c (node_value p unit row)
 unfolding value_dual
-dual_price p unit row c = refl
+dual_price p unit offset row c = refl
 
 one_covers : (p : Problem) (c : ℕ × ℕ) (v : ℕ → ℕ) (k : ℕ) → Contains p.candidates k → is_allowed p c k k ≡ true
     → flow p c.0 c.1 * allowed_price p c v ≤ route_cost p c.0 c.1 k k + flow p c.0 c.1 * v k
@@ -159,25 +162,27 @@ two_cover p c v k m first second apart allowed =
       length_costs p c.0 c.1 k m,
     )
 
-are_candidates : (p : Problem) (unit : ℕ) (row : List ℕ) (c : ℕ × ℕ)
-    → All (λ (e : ℕ × ℕ). Contains p.candidates e.0) (value_dual p unit row c).u
+are_candidates : (p : Problem) (unit offset : ℕ) (row : List ℕ) (c : ℕ × ℕ)
+    → All (λ (e : ℕ × ℕ). Contains p.candidates e.0) (value_dual p unit offset row c).u
 unfolding value_dual
-are_candidates p unit row c =
-    let v : ℕ → ℕ = λ k. flow p c.0 c.1 * node_value p unit row k in
-    All-weaker (IsListed v p.candidates) (λ (e : ℕ × ℕ). Contains p.candidates e.0) (λ e l. l.node) (values_listed v p.candidates)
-    (all_listed v p.candidates)
+are_candidates p unit offset row c = listed_candidates p (λ k. offset + flow p c.0 c.1 * node_value p unit row k)
 
-pub dual_is : (p : Problem) (unit : ℕ) (row : List ℕ) (c : ℕ × ℕ) → IsDual p 1 c (value_dual p unit row c)
-dual_is p unit row c =
+pub dual_is : (p : Problem) (unit offset : ℕ) (row : List ℕ) (c : ℕ × ℕ) → IsDual p 1 c (value_dual p unit offset row c)
+dual_is p unit offset row c =
     let v = node_value p unit row in
     record {
-      are_candidates = are_candidates p unit row c;
-      one_hub = λ k candidate allowed. omega (arith, dual_price p unit row c, dual_value p unit row c k candidate, one_covers p c v k candidate allowed);
+      are_candidates = are_candidates p unit offset row c;
+      one_hub = λ k candidate allowed. omega (
+        arith,
+        dual_price p unit offset row c,
+        dual_value p unit offset row c k candidate,
+        one_covers p c v k candidate allowed,
+      );
       two_hubs = λ k m first second apart allowed. omega (
         arith,
-        dual_price p unit row c,
-        dual_value p unit row c k first,
-        dual_value p unit row c m second,
+        dual_price p unit offset row c,
+        dual_value p unit offset row c k first,
+        dual_value p unit offset row c m second,
         two_cover p c v k m first second apart allowed,
       );
     }
@@ -185,12 +190,12 @@ dual_is p unit row c =
 -- ---- no greater price
 
 pub none_greater : (p : Problem) (unit : ℕ) (row : List ℕ) (c : ℕ × ℕ) (d : Prices) → IsProblem p → IsDual p 1 c d
-    → ((k : ℕ) → Contains p.candidates k → value_at d.u k ≡ value_at (value_dual p unit row c).u k)
-    → d.a ≤ flow p c.0 c.1 * length_ceiling p → d.a ≤ (value_dual p unit row c).a
+    → ((k : ℕ) → Contains p.candidates k → value_at d.u k ≡ value_at (value_dual p unit 0 row c).u k)
+    → d.a ≤ flow p c.0 c.1 * length_ceiling p → d.a ≤ (value_dual p unit 0 row c).a
 none_greater p unit row c d ok is same low =
     let all = scaled_above p c v w d.a low (λ x y first last. whichever p c x y (valued_length p c v x y) (length_ceiling p) (λ n. d.a ≤ w * n)
     (λ goes. by_test (nat_eq x y) (λ e. alone x y first (eqb-true x y e) goes) (λ e. by_two x y first last (eqb-false x y e) goes)) low) in
-    omega (arith, all, dual_price p unit row c)
+    omega (arith, all, dual_price p unit 0 row c)
   where
     w : ℕ
     w = flow p c.0 c.1
@@ -201,7 +206,7 @@ none_greater p unit row c d ok is same low =
     listed : (x : ℕ) → x < length p.candidates → value_at d.u (candidate_at p x) ≡ w * v (candidate_at p x)
     listed x within =
         let there = Contains-get_or p.candidates x 0 within in
-        same (candidate_at p x) there ∙ dual_value p unit row c (candidate_at p x) there
+        omega (arith, same (candidate_at p x) there, dual_value p unit 0 row c (candidate_at p x) there)
 
     nodes_apart : (x y : ℕ) → x < length p.candidates → y < length p.candidates → x ≢ y → candidate_at p x ≢ candidate_at p y
     nodes_apart x y first last apart e =

@@ -1,6 +1,6 @@
 -- Duals of any values that are listed for the candidates: the price is lowered to what the values allow on allowed routes.
 use Rattle.std.specs.Prelude.{◌≡◌, ℕ, ◌+◌, ◌*◌, min, List, length, map, zip, slice_range, nat_eq, if◌then◌else◌}
-use Rattle.hub_spec.specs.Problem.{Problem, flow, distance, is_allowed, commodities}
+use Rattle.hub_spec.specs.Problem.{Problem, flow, distance, is_allowed, opening_cost, commodities}
 use Rattle.hub_spec.specs.Cuts.{Prices, value_at, Cut, cut_by}
 use Rattle.hub_spec.specs.Separation.{values_listed}
 use Rattle.unit_duals.specs.Leasts.{least_of}
@@ -34,18 +34,26 @@ allowed_price p c values =
     let places = length p.candidates in
     least_of ceiling (λ x. least_of ceiling (λ y. if_allowed p c x y (valued_length p c values x y) ceiling) places) places
 
--- the dual of the commodity by the row: the flow times the price, and the flow times each value that is above 0
-unfoldable pub value_dual : Problem → ℕ → List ℕ → ℕ × ℕ → Prices
-value_dual p unit row c = record {
-  a = flow p c.0 c.1 * allowed_price p c (node_value p unit row);
-  u = values_listed (λ k. flow p c.0 c.1 * node_value p unit row k) p.candidates;
+-- The dual of the commodity by the row and an offset: the flow times the price, and the flow times each value, with the
+-- offset added to the price and to the value of each candidate. Values above 0 are listed. It is feasible for any offset,
+-- since each route has a hub.
+unfoldable pub value_dual : Problem → ℕ → ℕ → List ℕ → ℕ × ℕ → Prices
+value_dual p unit offset row c = record {
+  a = offset + flow p c.0 c.1 * allowed_price p c (node_value p unit row);
+  u = values_listed (λ k. offset + flow p c.0 c.1 * node_value p unit row k) p.candidates;
 }
 
--- values in this unit for all commodities of so many nodes: a row for each commodity in order, a value for each place
+-- The offset of a commodity: for the first one this number, at most the fixed costs of all candidates, else 0.
+abbrev pub offset_of : Problem → ℕ → ℕ × ℕ → ℕ
+offset_of p offset c = if nat_eq (c.0 + c.1) 0 then min offset (opening_cost p p.candidates) else 0
+
+-- Values in this unit for all commodities of so many nodes: a row for each commodity in order, a value for each place.
+-- The offset is of the first commodity, in 10^-12.
 pub record ValueRows : Type 0 where
   pub size : ℕ
   pub places : ℕ
   pub unit : ℕ
+  pub offset : ℕ
   pub items : List ℕ
 
 -- they are for the problem's commodities and candidates
@@ -62,6 +70,10 @@ abbrev pub row_for : ValueRows → ℕ × ℕ → List ℕ
 row_for w c =
     slice_range w.items (commodity_number w.size c * w.places) (commodity_number w.size c * w.places + w.places)
 
+-- the dual of the commodity by its row
+abbrev pub commodity_dual : Problem → ValueRows → ℕ × ℕ → Prices
+commodity_dual p w c = value_dual p w.unit (offset_of p w.offset c) (row_for w c) c
+
 -- the cut of these values
 unfoldable pub value_cut : Problem → ValueRows → Cut
-value_cut p w = cut_by (map (λ c. value_dual p w.unit (row_for w c) c) (commodities p.size))
+value_cut p w = cut_by (map (commodity_dual p w) (commodities p.size))

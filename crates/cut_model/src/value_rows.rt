@@ -12,14 +12,16 @@ use std::alloc::{AllocError, Global};
 use std::marker::Model;
 
 /// Dual values per unit of flow: for each commodity a row, with a value for each candidate, as multiples of `unit`
-/// times 10^-6.
+/// times 10^-6. And the offset of the first commodity, in 10^-12, for its price and for each of its values.
 ///
-/// Rows may hold any numbers. What is above the ceiling of lengths counts as the ceiling.
+/// Rows may hold any numbers. What is above the ceiling of lengths counts as the ceiling. An offset above the fixed costs
+/// of all candidates counts as these.
 #[derive(Drop)]
 pub struct Values {
     size: usize,
     places: usize,
     unit: u32,
+    offset: u128,
     items: Vec<u32>,
 }
 
@@ -47,6 +49,7 @@ impl Values {
             size,
             places,
             unit,
+            offset: 0,
             items: vec![in alloc; 0; size * size * places]?,
         })
     }
@@ -59,6 +62,7 @@ impl Values {
             size: self.size,
             places: self.places,
             unit: self.unit,
+            offset: self.offset,
             items: self.items.to_vec(alloc)?,
         })
     }
@@ -68,6 +72,7 @@ impl Values {
         requires { IsSameShape self.old other.now }
         ensures { self.new ≡ other.now }
     {
+        self.offset = other.offset;
         self.items.copy_from_slice(&other.items);
     }
 
@@ -76,6 +81,20 @@ impl Values {
         ensures { result ≡ self.now.unit }
     {
         self.unit
+    }
+
+    /// The offset of the first commodity, in 10^-12.
+    pub fn offset(&self) -> u128
+        ensures { result ≡ self.now.offset }
+    {
+        self.offset
+    }
+
+    /// Sets the offset of the first commodity, in 10^-12.
+    pub fn set_offset(&mut self, offset: u128)
+        ensures { self.new ≡ record self.old { offset = offset } }
+    {
+        self.offset = offset;
     }
 
     /// The rows of all commodities, one after another.

@@ -11,6 +11,7 @@ packed_rows s = record {
   size = s.size;
   places = s.places;
   unit = s.unit;
+  offset = s.offset;
   items = all_unpacked (s.size * s.places) s.origins.items;
 }
 

@@ -58,6 +58,7 @@ pub struct PackedValues {
     size: usize,
     places: usize,
     unit: u32,
+    offset: u128,
     origins: Vec<Vec<Item>>,
 }
 
@@ -90,6 +91,7 @@ impl PackedValues {
             size,
             places,
             unit: values.unit(),
+            offset: values.offset(),
             origins,
         })
     }
@@ -99,6 +101,13 @@ impl PackedValues {
         ensures { result ≡ self.now.unit }
     {
         self.unit
+    }
+
+    /// The offset of the first commodity, in 10^-12.
+    pub fn offset(&self) -> u128
+        ensures { result ≡ self.now.offset }
+    {
+        self.offset
     }
 
     /// Writes the rows of all commodities from `i`, one after another. It allocates nothing.

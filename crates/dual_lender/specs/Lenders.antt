@@ -3,15 +3,11 @@ use Rattle.std.specs.Prelude.{◌≡◌, ℕ, ◌+◌, ◌*◌, List, [], slice_
 use Rattle.hub_spec.specs.Problem.{Problem}
 use Rattle.hub_spec.specs.Cuts.{Prices, Cut}
 use Rattle.hub_spec.specs.Separation.{minimal_dual}
-use Rattle.cut_model.specs.ValueRows.{ValueRows, row_for, value_dual}
+use Rattle.cut_model.specs.ValueRows.{ValueRows, commodity_dual}
 use Rattle.value_cuts.specs.Prices.{ArePricesFrom}
 use Rattle.pareto_cuts.specs.Scratches.{ScratchParts, IsReadyFor, HasDualsFrom}
 use Rattle.cut_pool.specs.Kept.{Kept, by_values, by_set, cored, given}
 use Rattle.cut_pool.specs.Packed.{AreRowsFrom}
-
--- the dual of the commodity by its row of the values
-abbrev pub commodity_dual : Problem → ValueRows → ℕ × ℕ → Prices
-commodity_dual p w c = value_dual p w.unit (row_for w c) c
 
 -- a dual of price 0 without values
 abbrev pub no_dual : Prices

@@ -3,10 +3,10 @@
 ghost use Rattle.std.specs.Prelude.{◌≡◌, ◌+◌, ◌*◌, ◌<◌, ◌≤◌, pos, length, IfOk};
 ghost use Rattle.hub_spec.specs.Separation.{AreListedValues};
 ghost use Rattle.hub_model.specs.Prices.{signed_values};
-ghost use Rattle.cut_model.specs.ValueRows.{AreValuesFor};
+ghost use Rattle.cut_model.specs.ValueRows.{commodity_dual, AreValuesFor};
 ghost use Rattle.value_cuts.specs.Prices.{ArePricesFrom};
 ghost use Rattle.cut_pool.specs.Packed.{row_of, AreRowsFrom};
-ghost use Rattle.dual_lender.specs.Lenders.{commodity_dual, HasPricesFrom};
+ghost use Rattle.dual_lender.specs.Lenders.{HasPricesFrom};
 
 use cut_pool::PackedValues;
 use hub_model::Instance;
@@ -92,7 +92,8 @@ impl<'a> ValueRoom<'a> {
             unit: values.unit(),
             row: row_at(&self.rows, j, self.tables.places()),
         };
-        self.made.make(&self.tables, i, j, &row, price);
+        self.made
+            .make(&self.tables, i, j, &row, price, values.offset());
     }
 
     /// The price of the dual that was made last, and its nodes with their values, ascending, each value above 0.

@@ -7,7 +7,7 @@
 //! (10^-3).
 //!
 //! - For an instance: `row from I to J`, and `set_legs` and `first_legs` (of three nodes). With a `row` of values in a
-//!   `unit`: `value_sums`, `value_prices` and `value_dual from I to J`.
+//!   `unit`, and optionally an `offset`: `value_sums`, `value_prices` and `value_dual from I to J`.
 //! - For some hubs, `hubs H ..`: `lacking`, `assign`, `order` (by a `point`), `cut` and `core_cut`. With `from I to J`:
 //!   the Pareto-optimal dual (`core_dual`), and the minimal dual by its row (`row_dual`), with all commodities of its
 //!   origin (`strong_dual`), and by the parts that compute an origin (`separation`).

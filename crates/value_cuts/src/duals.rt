@@ -1,12 +1,13 @@
 //! The duals of any dual values, one by one.
 
 ghost use Rattle.std.specs.Prelude.{◌≡◌, ◌+◌, ◌*◌, ◌<◌, ◌≤◌, [], pos, length, IfOk, vec_capacity};
-ghost use Rattle.hub_spec.specs.Limits.{most_flow};
+ghost use Rattle.hub_spec.specs.Limits.{most_flow, most_cost};
 ghost use Rattle.hub_spec.specs.Problem.{IsProblem, flow};
 ghost use Rattle.hub_spec.specs.Separation.{values_listed, AreListedValues};
 ghost use Rattle.hub_model.specs.Prices.{signed_values, AreSignedPrices};
-ghost use Rattle.cut_model.specs.ValueRows.{node_value, allowed_price, value_dual};
+ghost use Rattle.cut_model.specs.ValueRows.{node_value, allowed_price, value_dual, offset_of};
 
+use crate::offsets::offset_of;
 use crate::pricing::value_of;
 use crate::{CandidateLegs, ListedRow};
 use hub_model::{list_value, signed};
@@ -45,21 +46,31 @@ impl DualScratch {
         })
     }
 
-    /// Makes the dual of the commodity from `i` to `j`, from its row of values and its price per unit of flow. It
-    /// allocates nothing.
-    pub fn make(&mut self, tables: &CandidateLegs, i: u32, j: u32, row: &ListedRow<'_>, price: u64)
+    /// Makes the dual of the commodity from `i` to `j`, from its row of values, its price per unit of flow, and the offset
+    /// of the first commodity, in 10^-12. It allocates nothing.
+    pub fn make(
+        &mut self,
+        tables: &CandidateLegs,
+        i: u32,
+        j: u32,
+        row: &ListedRow<'_>,
+        price: u64,
+        offset: u128,
+    )
         requires origin { i < tables.now.size }
         requires destination { j < tables.now.size }
         requires row { length row.now.row.now ≡ length tables.now.candidates }
         requires price { price ≡ allowed_price tables.now (i, j) (node_value tables.now row.now.unit row.now.row.now) }
         requires room { length tables.now.candidates ≤ self.old.room }
-        ensures dual { self.new.dual ≡ value_dual tables.now row.now.unit row.now.row.now (i, j) }
+        ensures dual { let p = tables.now in
+            self.new.dual ≡ value_dual p row.now.unit (offset_of p offset (i, j)) row.now.row.now (i, j) }
         ensures room { self.new.room ≡ self.old.room }
     {
         let ListedRow { unit, row } = *row;
         let flow = flow_between(tables, i, j);
-        self.a = signed(flow as u128 * price as u128);
-        list_values(tables, flow, unit, row, &mut self.u);
+        let offset = offset_of(tables.instance(), offset, i, j);
+        self.a = signed(offset + flow as u128 * price as u128);
+        list_values(tables, flow, offset, unit, row, &mut self.u);
     }
 
     /// The dual that was made last: its price, and its nodes with their values, ascending, each above 0. All are in
@@ -83,21 +94,29 @@ fn flow_between(tables: &CandidateLegs, i: u32, j: u32) -> u64
     tables.instance().flow_between(i, j)
 }
 
-/// Lists the candidates whose value times the flow is above 0.
-fn list_values(tables: &CandidateLegs, flow: u64, unit: u32, row: &[u32], u: &mut Vec<(u32, i128)>)
+/// Lists the candidates whose value, the offset and the flow times what the row lists, is above 0.
+fn list_values(
+    tables: &CandidateLegs,
+    flow: u64,
+    offset: u128,
+    unit: u32,
+    row: &[u32],
+    u: &mut Vec<(u32, i128)>,
+)
     requires flow { flow ≤ most_flow }
+    requires offset { offset ≤ most_cost }
     requires row { length row.now ≡ length tables.now.candidates }
     requires room { length tables.now.candidates ≤ vec_capacity u.old }
     ensures room { vec_capacity u.old ≤ vec_capacity u.new }
     ensures are { u.new.items
-        ≡ signed_values (values_listed (λ k. flow * node_value tables.now unit row.now k) tables.now.candidates) }
+        ≡ signed_values (values_listed (λ k. offset + flow * node_value tables.now unit row.now k) tables.now.candidates) }
     ensures problem { IsProblem tables.now }
 {
     let ceiling = tables.ceiling();
     let candidates = tables.instance().candidates();
     u.clear();
     for x in 0..candidates.len() {
-        let value = flow as u128 * value_of(ceiling, unit, row[x]) as u128;
+        let value = offset + flow as u128 * value_of(ceiling, unit, row[x]) as u128;
         list_value(candidates[x], value, u);
     }
 }

@@ -8,14 +8,16 @@
 //!
 //! Values are those of `cut_model`: a row of small numbers for each commodity, over the tables of `leg_duals`. In the
 //! order of reading: `pricing` (the prices) and `allowed` (the same where the length of routes is limited); then
-//! `origins`, `rows` and `workers` (a row of prices for each origin, by a worker pool); then `sums` (total and loads of
-//! the cut) and `duals` (its duals, borrowed one by one). A place is the number of a candidate in their order, from 0.
-//! Lengths and values by unit of flow are in 10^-6, costs in 10^-12.
+//! `origins`, `rows` and `workers` (a row of prices for each origin, by a worker pool); then `offsets` (what is added
+//! for the first commodity), `sums` (total and loads of the cut) and `duals` (its duals, borrowed one by one). A place
+//! is the number of a candidate in their order, from 0. Lengths and values by unit of flow are in 10^-6, costs in
+//! 10^-12.
 #![tactic(auto)]
 
 mod allowed;
 mod duals;
 mod laws;
+mod offsets;
 mod origins;
 mod pricing;
 mod rows;

@@ -1,11 +1,13 @@
 //! The sums of the cut of any dual values.
 
 ghost use Rattle.std.specs.Prelude.{◌≡◌, ℕ, ◌+◌, ◌*◌, ◌^◌, ◌<◌, ◌≤◌, length, slice_index, All};
-ghost use Rattle.hub_spec.specs.Limits.{most_flow};
-ghost use Rattle.hub_spec.specs.Cuts.{total, load};
+ghost use Rattle.hub_spec.specs.Limits.{most_flow, most_cost};
+ghost use Rattle.hub_spec.specs.Cuts.{total, load, value_at};
+ghost use Rattle.hub_spec.specs.Separation.{values_listed};
 ghost use Rattle.cut_model.specs.ValueRows.{AreValuesFor, node_value, value_cut};
 ghost use Rattle.value_cuts.specs.Prices.{AreRowPrices};
 
+use crate::offsets::offset_of;
 use crate::pricing::value_of;
 use crate::{CandidateLegs, PriceScratch, Values, set_prices};
 
@@ -40,29 +42,42 @@ pub fn sums_of(tables: &CandidateLegs, values: &Values, prices: &[u64], loads: &
     ensures total { result ≡ total (value_cut tables.now values.now) }
     ensures loads { (k : ℕ) → k < tables.now.size → slice_index loads.new k ≡ load (value_cut tables.now values.now) k }
 {
+    let instance = tables.instance();
     loads.fill(0);
     let mut total = 0;
+    let mut offset = offset_of(instance, values.offset(), 0, 0);
     for t in 0..prices.len() {
-        let flow = tables.instance().flows()[t];
-        total += flow as u128 * prices[t] as u128;
-        add_values(tables, flow, values.unit(), values.row_at(t), loads);
+        let flow = instance.flows()[t];
+        let price = offset + flow as u128 * prices[t] as u128;
+        total += price;
+        add_values(tables, flow, offset, values.unit(), values.row_at(t), loads);
+        offset = 0;
     }
     total
 }
 
-/// Adds the flow times its value to the load of each candidate.
-fn add_values(tables: &CandidateLegs, flow: u64, unit: u32, row: &[u32], loads: &mut [u128])
+/// Adds the offset, and the flow times its value, to the load of each candidate.
+fn add_values(
+    tables: &CandidateLegs,
+    flow: u64,
+    offset: u128,
+    unit: u32,
+    row: &[u32],
+    loads: &mut [u128],
+)
     requires flow { flow ≤ most_flow }
+    requires offset { offset ≤ most_cost }
     requires row { length row.now ≡ length tables.now.candidates }
     requires long { length loads.old ≡ tables.now.size }
     requires limit { All (λ v. v ≤ 2 ^ 120) loads.old }
-    ensures { (k : ℕ) → k < tables.now.size
-        → slice_index loads.new k ≡ slice_index loads.old k + flow * node_value tables.now unit row.now k }
+    ensures { let p = tables.now in let value : ℕ → ℕ = λ k. offset + flow * node_value p unit row.now k in
+        (k : ℕ) → k < p.size
+        → slice_index loads.new k ≡ slice_index loads.old k + value_at (values_listed value p.candidates) k }
 {
     let ceiling = tables.ceiling();
     let candidates = tables.instance().candidates();
     for x in 0..candidates.len() {
-        let value = value_of(ceiling, unit, row[x]);
-        loads[candidates[x] as usize] += flow as u128 * value as u128;
+        let value = offset + flow as u128 * value_of(ceiling, unit, row[x]) as u128;
+        loads[candidates[x] as usize] += value;
     }
 }

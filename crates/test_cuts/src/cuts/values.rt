@@ -7,7 +7,7 @@ ghost use Rattle.cut_model.specs.HeldRows.{IsSameShape};
 use super::texts::{dual_told, sums_told};
 use hub_model::Instance;
 use std::alloc::{AllocError, Global};
-use test_lines::{list, node};
+use test_lines::{list, node, number};
 use value_cuts::{
     CandidateLegs, DualScratch, ListedRow, PriceScratch, Values, cut_sums, price, set_prices,
 };
@@ -21,29 +21,34 @@ pub fn asked(alloc: Global, instance: &Instance, line: &str) -> Result<String, A
     if row.is_empty() || row.len() != instance.candidates().len() || i >= n || j >= n {
         return String::from_str(alloc, "no row");
     }
-    let unit = node(line, " unit ");
+    let row = ListedRow {
+        unit: node(line, " unit "),
+        row: &row,
+    };
+    let offset = u128::from(number(line, " offset ").unwrap_or(0));
     if line.starts_with("value_dual") {
-        return of_commodity(alloc, instance, i, j, unit, &row);
+        return of_commodity(alloc, instance, i, j, &row, offset);
     }
-    let values = with_row(alloc, instance, unit, &row)?;
+    let values = with_row(alloc, instance, &row, offset)?;
     if line.starts_with("value_prices") {
         return prices(alloc, instance, &values);
     }
     copied(alloc, instance, &values)
 }
 
-/// Values that have this row for each commodity.
+/// Values that have this row for each commodity, and this offset of the first one.
 fn with_row(
     alloc: Global,
     instance: &Instance,
-    unit: u32,
-    row: &[u32],
+    row: &ListedRow,
+    offset: u128,
 ) -> Result<Values, AllocError>
-    requires { 1 ≤ length row.now }
+    requires { 1 ≤ length row.now.row.now }
     ensures { IfOk result (AreValuesFor instance.now) }
 {
-    let mut values = Values::new(alloc, instance, unit)?;
-    fill_all(&mut values, row);
+    let mut values = Values::new(alloc, instance, row.unit)?;
+    fill_all(&mut values, row.row);
+    values.set_offset(offset);
     Ok(values)
 }
 
@@ -109,51 +114,35 @@ fn of_commodity(
     instance: &Instance,
     i: u32,
     j: u32,
-    unit: u32,
-    row: &[u32],
+    row: &ListedRow,
+    offset: u128,
 ) -> Result<String, AllocError>
     requires from { i < instance.now.size }
     requires to { j < instance.now.size }
-    requires row { length row.now ≡ length instance.now.candidates }
+    requires row { length row.now.row.now ≡ length instance.now.candidates }
 {
     let tables = CandidateLegs::new(alloc, instance)?;
-    let price = priced_alone(alloc, &tables, i, j, unit, row)?;
-    dual(alloc, &tables, i, j, unit, row, price)
-}
-
-fn priced_alone(
-    alloc: Global,
-    tables: &CandidateLegs,
-    i: u32,
-    j: u32,
-    unit: u32,
-    row: &[u32],
-) -> Result<u64, AllocError>
-    requires from { i < tables.now.size }
-    requires to { j < tables.now.size }
-    requires row { length row.now ≡ length tables.now.candidates }
-    ensures { IfOk result (λ price. price ≡ allowed_price tables.now (i, j) (node_value tables.now unit row.now)) }
-{
-    let mut scratch = PriceScratch::new(alloc, tables)?;
-    Ok(price(tables, i, j, unit, row, &mut scratch))
+    let mut scratch = PriceScratch::new(alloc, &tables)?;
+    let price = price(&tables, i, j, row.unit, row.row, &mut scratch);
+    dual(alloc, &tables, (i, j), row, price, offset)
 }
 
 fn dual(
     alloc: Global,
     tables: &CandidateLegs,
-    i: u32,
-    j: u32,
-    unit: u32,
-    row: &[u32],
+    commodity: (u32, u32),
+    row: &ListedRow,
     price: u64,
+    offset: u128,
 ) -> Result<String, AllocError>
-    requires from { i < tables.now.size }
-    requires to { j < tables.now.size }
-    requires row { length row.now ≡ length tables.now.candidates }
-    requires price { price ≡ allowed_price tables.now (i, j) (node_value tables.now unit row.now) }
+    requires from { commodity.0 < tables.now.size }
+    requires to { commodity.1 < tables.now.size }
+    requires row { length row.now.row.now ≡ length tables.now.candidates }
+    requires price { price ≡ allowed_price tables.now commodity (node_value tables.now row.now.unit row.now.row.now) }
 {
+    let (i, j) = commodity;
     let mut dual = DualScratch::new(alloc, tables)?;
-    dual.make(tables, i, j, &ListedRow { unit, row }, price);
+    dual.make(tables, i, j, row, price, offset);
     let (price, values) = dual.dual();
     dual_told(alloc, price, values)
 }

@@ -1,4 +1,4 @@
-use Rattle.std.proofs.Common.{◌≡◌, ℕ, ◌*◌, ◌<◌, ◌≤◌, List, length, slice_index, ap, sym, ◌∙◌, arith}
+use Rattle.std.proofs.Common.{◌≡◌, ℕ, ◌+◌, ◌*◌, ◌<◌, ◌≤◌, List, length, slice_index, ap, sym, ◌∙◌, arith}
 use Rattle.std.proofs.lemmas.Nat.{mul-le}
 use Rattle.hub_spec.specs.Limits.{most_flow}
 use Rattle.hub_spec.specs.Problem.{Problem}
@@ -12,7 +12,7 @@ use Rattle.value_cuts.proofs.duals.list_values.Goals as goal
 pub list_value-requires-clause-limit : goal.list_value-requires-clause-limit
 list_value-requires-clause-limit c =
     let low : c.value_of.result ≤ most_length = omega (arith, c.value_of.ensures, c.ceiling-ceiling.ensures.limit) in
-    omega (arith, mul-le c.args.flow c.value_of.result most_flow most_length c.requires.flow low)
+    omega (arith, c.requires.offset, mul-le c.args.flow c.value_of.result most_flow most_length c.requires.flow low)
 
 pub loop-x-preserved : goal.loop-x-preserved
 loop-x-preserved c =
@@ -20,13 +20,13 @@ loop-x-preserved c =
     let x = c.loop-x.x in
     let row = c.args.row.now in
     let k = slice_index c.candidates-candidates.result.now x in
-    let v : ℕ → ℕ = λ k. c.args.flow * node_value p c.args.unit row k in
-    let n = c.args.flow * c.value_of.result in
+    let v : ℕ → ℕ = λ k. c.args.offset + c.args.flow * node_value p c.args.unit row k in
+    let n = c.args.offset + c.args.flow * c.value_of.result in
     let same = c.candidates-candidates.ensures.value ∙ ap (λ (q : Problem). q.candidates) c.instance.ensures.value in
     let within : x < length p.candidates = omega (arith, c.loop-x-test.true, ap (λ (ms : List ℕ). length ms) same) in
     let node : k ≡ candidate_at p x = ap (λ (ms : List ℕ). slice_index ms x) same in
     let value : n ≡ v k =
-    ap (λ (a : ℕ). c.args.flow * a) (worked_value p c.args.unit row x c.ceiling-ceiling.result c.value_of.result c.ceiling-ceiling.ensures.problem
+    ap (λ (a : ℕ). c.args.offset + c.args.flow * a) (worked_value p c.args.unit row x c.ceiling-ceiling.result c.value_of.result c.ceiling-ceiling.ensures.problem
     c.requires.row within c.ceiling-ceiling.ensures.value c.value_of.ensures) ∙ ap v (sym node) in
     record {
       entries = listed_more v p.candidates x k n c.loop-x.u.items c.list_value.new.list.items within node value c.list_value.ensures.are

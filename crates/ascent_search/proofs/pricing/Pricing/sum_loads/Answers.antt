@@ -2,7 +2,7 @@ use Rattle.std.proofs.Common.{◌≡◌, length, sym, subst, rules}
 use Rattle.cut_model.specs.ValueRows.{value_cut}
 use Rattle.ascent_search.specs.SingleCuts.{AreLoads}
 use Rattle.ascent_search.proofs.SetLeaves.{taken, value_loads}
-use Rattle.ascent_search.proofs.pricing.Pricing.sum.Goals as goal
+use Rattle.ascent_search.proofs.pricing.Pricing.sum_loads.Goals as goal
 
 pub returns-clause-sums : goal.returns-clause-sums
 returns-clause-sums c =
