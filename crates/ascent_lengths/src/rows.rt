@@ -52,7 +52,9 @@ pub fn put<T: Copy + Drop>(items: &mut [T], index: usize, item: T) {
 
 /// Sets all items.
 pub fn fill<T: Copy + Drop>(items: &mut [T], item: T) {
-    items.fill(item);
+    for place in items.iter_mut() {
+        *place = item;
+    }
 }
 
 /// Copies the items, as far as both slices go.
