@@ -195,7 +195,9 @@ fn together<R: Threads + Sync>(
         return Ok(Vec::new(alloc));
     };
     if desks.is_empty() {
-        return vec![in alloc; shared.follow(alloc, desk)?];
+        let mut crops = Vec::new(alloc);
+        crops.push(shared.follow(alloc, desk)?)?;
+        return Ok(crops);
     }
     let others = move || -> Result<Vec<Crop>, AllocError>
         requires { IsSync R.row }
