@@ -27,11 +27,6 @@ impl PlaceValues {
         })
     }
 
-    /// The price.
-    pub fn price(&self) -> u32 {
-        self.price
-    }
-
     /// The values by place.
     pub fn values(&self) -> &[u32] {
         &self.values
@@ -49,15 +44,16 @@ impl PlaceValues {
     pub fn begin_from(&mut self, legs: &Commodity<'_>, price: u32, values: &[u32]) {
         self.price = price;
         copy(values, &mut self.values);
-        set_sums(legs.collect, values, &mut self.firsts);
-        set_sums(legs.deliver, values, &mut self.lasts);
+        set_sums(legs.ends.collect, values, &mut self.firsts);
+        set_sums(legs.ends.deliver, values, &mut self.lasts);
     }
 
     /// Sets the value of a place.
     pub fn settle(&mut self, legs: &Commodity<'_>, k: usize, value: u32) {
+        let (collect, deliver) = (at(legs.ends.collect, k), at(legs.ends.deliver, k));
         put(&mut self.values, k, value);
-        put(&mut self.firsts, k, at(legs.collect, k).wrapping_add(value));
-        put(&mut self.lasts, k, at(legs.deliver, k).wrapping_add(value));
+        put(&mut self.firsts, k, collect.wrapping_add(value));
+        put(&mut self.lasts, k, deliver.wrapping_add(value));
     }
 
     /// From now on the place requires nothing of others.
@@ -67,31 +63,24 @@ impl PlaceValues {
     }
 
     /// Sets the value of each of these places, in order, to the least that its routes require, alone or with places
-    /// that require something.
+    /// that require something. A place requires nothing of others until it has a value.
     pub fn settle_asked(&mut self, legs: &Commodity<'_>, places: &[usize]) {
         let legs = legs.below(self.price);
         for k in places {
-            let value = self.asked(&legs, *k);
-            self.settle(&legs, *k, value);
+            let (forth, back) = (legs.forth(*k), legs.back(*k));
+            let mut least = self.price;
+            if forth.min(back) < self.price {
+                self.withhold(*k);
+                least = least.min(legs.alone(*k));
+            }
+            if forth < least {
+                least = least.min(legs.onward(*k).least(&self.lasts));
+            }
+            if back < least {
+                least = least.min(legs.before(*k).least(&self.firsts));
+            }
+            self.settle(&legs, *k, self.price.saturating_sub(least));
         }
-    }
-
-    /// The least required value of a place, which requires nothing of others until it has one.
-    #[inline(always)]
-    fn asked(&mut self, legs: &Commodity<'_>, k: usize) -> u32 {
-        let (forth, back) = (legs.forth(k), legs.back(k));
-        if forth.min(back) >= self.price {
-            return 0;
-        }
-        self.withhold(k);
-        let mut least = self.price.min(legs.alone(k));
-        if forth < least {
-            least = least.min(legs.onward(k).least(&self.lasts));
-        }
-        if back < least {
-            least = least.min(legs.before(k).least(&self.firsts));
-        }
-        self.price.saturating_sub(least)
     }
 
     /// The least length of a route over the place, plus the value of its other hub.

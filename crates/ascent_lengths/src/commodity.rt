@@ -1,38 +1,39 @@
 //! The routes of a commodity. A route that `--max-length` forbids has length `FAR`.
 
-use crate::distances::{Fan, Reach};
-use crate::rows::{FAR, at, least_sum, small};
-use crate::tables::Tables;
+use crate::rows::{FAR, at, least_sum, row, small};
+use crate::tables::{Legs, Tables};
 
-/// The legs of a commodity over places: collection, delivery, and the least lengths of each with a trunk leg, allowed
-/// or not. With `--max-length` it has the distances that say which routes are allowed.
+/// The legs of a commodity over places, allowed or not: collection, delivery, and the least lengths of each with a
+/// trunk leg. With `--max-length` it has the distances that say which routes are allowed, and a length below which all
+/// of them are.
 #[derive(Clone, Copy)]
 pub struct Commodity<'a> {
-    tables: &'a Tables,
-    /// The collection leg to each place.
-    pub collect: &'a [u32],
+    /// Collection and delivery.
+    pub ends: Ends<'a>,
     collect_near: &'a [u32],
-    /// The delivery leg from each place.
-    pub deliver: &'a [u32],
     deliver_near: &'a [u32],
-    reach: Option<Reach<'a>>,
+    distances: Option<Ends<'a>>,
+    limit: u32,
+    safe_below: u32,
 }
 
 impl<'a> Commodity<'a> {
     /// The legs of the commodity from `i` to `j`.
     pub fn of(tables: &'a Tables, i: usize, j: usize) -> Commodity<'a> {
-        let reach = match &tables.distances {
-            None => None,
-            Some(distances) => Some(distances.reach(tables.size, i, j)),
-        };
-        Commodity {
-            tables,
-            collect: tables.legs.collect.row(i),
+        let mut legs = Commodity {
+            ends: tables.legs.ends(i, j),
             collect_near: tables.collect_near.row(i),
-            deliver: tables.legs.deliver.row(j),
             deliver_near: tables.deliver_near.row(j),
-            reach,
+            distances: None,
+            limit: FAR,
+            safe_below: FAR,
+        };
+        if let Some(distances) = &tables.distances {
+            legs.distances = Some(distances.legs.ends(i, j));
+            legs.limit = distances.limit;
+            legs.safe_below = at(row(&distances.safe_below, i, tables.size), j);
         }
+        legs
     }
 
     /// Returns whether some route over the place, allowed or not, is shorter than the limit.
@@ -42,165 +43,195 @@ impl<'a> Commodity<'a> {
 
     /// The least length of a route with the place as its first hub.
     pub(crate) fn forth(&self, k: usize) -> u32 {
-        at(self.collect, k).wrapping_add(at(self.deliver_near, k))
+        at(self.ends.collect, k).wrapping_add(at(self.deliver_near, k))
     }
 
     /// The least length of a route with the place as its last hub.
     pub(crate) fn back(&self, k: usize) -> u32 {
-        at(self.collect_near, k).wrapping_add(at(self.deliver, k))
+        at(self.collect_near, k).wrapping_add(at(self.ends.deliver, k))
     }
 
     /// Returns whether all routes shorter than this are allowed.
     pub fn is_safe(&self, limit: u32) -> bool {
-        match self.reach {
-            None => true,
-            Some(reach) => limit <= reach.safe_below,
-        }
+        self.distances.is_none() || limit <= self.safe_below
     }
 
     /// The same commodity where only routes shorter than this matter: without distances, if all of these are allowed.
     pub fn below(&self, limit: u32) -> Commodity<'a> {
         let mut legs = *self;
         if self.is_safe(limit) {
-            legs.reach = None;
+            legs.distances = None;
         }
         legs
     }
 
     /// The length of the route with the place as its only hub.
     pub fn alone(&self, k: usize) -> u32 {
-        let length = at(self.collect, k).wrapping_add(at(self.deliver, k));
-        match self.reach {
-            Some(reach) if !reach.onward(k).allows(k) => FAR,
-            _ => length,
+        match self.distances {
+            Some(distances) if distances.alone(k) > self.limit => FAR,
+            _ => self.ends.alone(k),
         }
     }
 
     /// The routes with the place as their first hub.
     pub fn onward(&self, k: usize) -> HubRoutes<'a> {
         HubRoutes {
-            own: at(self.collect, k),
-            trunk: self.tables.legs.trunk.row(k),
-            other: self.deliver,
-            fan: self.reach.map(|reach| reach.onward(k)),
+            legs: self.ends.onward(k),
+            distances: self.distances.map(|distances| distances.onward(k)),
+            limit: self.limit,
         }
     }
 
     /// The routes with the place as their last hub.
     pub fn before(&self, k: usize) -> HubRoutes<'a> {
         HubRoutes {
-            own: at(self.deliver, k),
-            trunk: self.tables.legs.trunk_back.row(k),
-            other: self.collect,
-            fan: self.reach.map(|reach| reach.before(k)),
+            legs: self.ends.before(k),
+            distances: self.distances.map(|distances| distances.before(k)),
+            limit: self.limit,
         }
     }
 
-    /// Sets, for each of the others, the length of the shorter route over it and the place, in either order.
-    pub fn set_pairs(&self, k: usize, others: Others<'_>, lengths: &mut [i32]) {
-        if self.reach.is_some() {
-            self.set_allowed_pairs(k, others.places, lengths);
-        } else if self.tables.has_even_trunk {
-            self.set_even_pairs(k, others, lengths);
-        } else {
-            self.set_all_pairs(k, others, lengths);
-        }
-    }
-
-    fn set_allowed_pairs(&self, k: usize, others: &[usize], lengths: &mut [i32]) {
+    /// Sets, for each of the others, the length of the shorter route over it and the place, in either order. Collection
+    /// and delivery legs of the others are given in the same order.
+    pub fn set_pairs(&self, k: usize, others: &[usize], ends: [&[u32]; 2], lengths: &mut [i32]) {
         let (onward, before) = (self.onward(k), self.before(k));
-        for (length, m) in lengths.iter_mut().zip(others) {
-            *length = small(onward.length(*m).min(before.length(*m)));
+        if self.distances.is_some() {
+            for (length, m) in lengths.iter_mut().zip(others) {
+                *length = small(onward.length(*m).min(before.length(*m)));
+            }
+            return;
         }
-    }
-
-    fn set_even_pairs(&self, k: usize, others: Others<'_>, lengths: &mut [i32]) {
-        let trunk = self.tables.legs.trunk.row(k);
-        let (own, end) = (at(self.collect, k), at(self.deliver, k));
-        let count = lengths.len().min(others.places.len());
-        let count = count.min(others.collect.len()).min(others.deliver.len());
-        for x in 0..count {
-            let forth = own.wrapping_add(others.deliver[x]);
-            let back = end.wrapping_add(others.collect[x]);
-            lengths[x] = small(at(trunk, others.places[x]).wrapping_add(forth.min(back)));
-        }
-    }
-
-    fn set_all_pairs(&self, k: usize, others: Others<'_>, lengths: &mut [i32]) {
-        let (trunk, trunk_back) = (
-            self.tables.legs.trunk.row(k),
-            self.tables.legs.trunk_back.row(k),
-        );
-        let (own, end) = (at(self.collect, k), at(self.deliver, k));
-        let count = lengths.len().min(others.places.len());
-        let count = count.min(others.collect.len()).min(others.deliver.len());
-        for x in 0..count {
-            let m = others.places[x];
-            let forth = at(trunk, m)
-                .wrapping_add(own)
-                .wrapping_add(others.deliver[x]);
-            let back = at(trunk_back, m)
-                .wrapping_add(end)
-                .wrapping_add(others.collect[x]);
+        let ([collect, deliver], own) = (ends, [onward.legs.own, before.legs.own]);
+        let count = lengths.len().min(others.len());
+        for x in 0..count.min(collect.len()).min(deliver.len()) {
+            let trunk = at(onward.legs.trunk, others[x]);
+            let forth = trunk.wrapping_add(own[0]).wrapping_add(deliver[x]);
+            let trunk = at(before.legs.trunk, others[x]);
+            let back = trunk.wrapping_add(own[1]).wrapping_add(collect[x]);
             lengths[x] = small(forth.min(back));
         }
     }
 
     /// The length of the shortest forbidden route, or `FAR`.
     pub(crate) fn shortest_barred(&self) -> u32 {
-        let Some(reach) = self.reach else { return FAR };
         let mut least = FAR;
-        for k in 0..self.tables.places {
+        for k in 0..self.ends.collect.len() {
             if self.forth(k) < least {
-                let trunk = self.tables.legs.trunk.row(k);
-                let onward = reach.onward(k).least_sum(trunk, self.deliver, false);
-                least = least.min(onward.wrapping_add(at(self.collect, k)));
+                least = least.min(self.onward(k).shortest_barred());
             }
         }
         least
     }
 }
 
-/// Some places with a commodity's collection and delivery legs, in one order.
+/// The legs of a commodity, or their distances: from its origin to each place, from each place to its destination, and
+/// between places.
 #[derive(Clone, Copy)]
-pub struct Others<'a> {
-    /// The places.
-    pub places: &'a [usize],
-    /// The legs from the origin to them.
+pub struct Ends<'a> {
+    legs: &'a Legs,
+    /// The collection leg to each place.
     pub collect: &'a [u32],
-    /// The legs from them to the destination.
+    /// The delivery leg from each place.
     pub deliver: &'a [u32],
 }
 
-/// The routes of a commodity with one hub in common: the leg that they share, by the other hub the two other legs, and
-/// their distances with `--max-length`.
+impl Legs {
+    fn ends(&self, i: usize, j: usize) -> Ends<'_> {
+        Ends {
+            legs: self,
+            collect: self.collect.row(i),
+            deliver: self.deliver.row(j),
+        }
+    }
+}
+
+impl<'a> Ends<'a> {
+    fn alone(&self, k: usize) -> u32 {
+        at(self.collect, k).wrapping_add(at(self.deliver, k))
+    }
+
+    fn onward(&self, k: usize) -> Fan<'a> {
+        Fan {
+            own: at(self.collect, k),
+            trunk: self.legs.trunk.row(k),
+            other: self.deliver,
+        }
+    }
+
+    fn before(&self, k: usize) -> Fan<'a> {
+        Fan {
+            own: at(self.deliver, k),
+            trunk: self.legs.trunk_back.row(k),
+            other: self.collect,
+        }
+    }
+}
+
+/// The legs of routes with one hub in common, or their distances: the leg that they share, and by the other hub the two
+/// other legs.
 #[derive(Clone, Copy)]
-pub struct HubRoutes<'a> {
+struct Fan<'a> {
     own: u32,
     trunk: &'a [u32],
     other: &'a [u32],
-    fan: Option<Fan<'a>>,
+}
+
+impl Fan<'_> {
+    /// The length of the route with this other hub.
+    fn length(&self, other: usize) -> u32 {
+        self.own
+            .wrapping_add(at(self.trunk, other))
+            .wrapping_add(at(self.other, other))
+    }
+}
+
+/// The routes of a commodity with one hub in common, and their distances with the limit, if there is one.
+#[derive(Clone, Copy)]
+pub struct HubRoutes<'a> {
+    legs: Fan<'a>,
+    distances: Option<Fan<'a>>,
+    limit: u32,
 }
 
 impl HubRoutes<'_> {
     /// The length of the route with this other hub.
     pub fn length(&self, other: usize) -> u32 {
-        let length = self
-            .own
-            .wrapping_add(at(self.trunk, other))
-            .wrapping_add(at(self.other, other));
-        match self.fan {
-            Some(fan) if !fan.allows(other) => FAR,
-            _ => length,
+        match self.distances {
+            Some(distances) if distances.length(other) > self.limit => FAR,
+            _ => self.legs.length(other),
         }
     }
 
     /// The least length where the other hub's outer leg is taken from the list; above `FAR` where there is none.
     pub fn least(&self, others: &[u32]) -> u32 {
-        let least = match self.fan {
-            None => least_sum(self.trunk, others),
-            Some(fan) => fan.least_sum(self.trunk, others, true),
+        let least = match self.distances {
+            None => least_sum(self.legs.trunk, others),
+            Some(distances) => self.least_where(others, distances, true),
         };
-        self.own.wrapping_add(least)
+        self.legs.own.wrapping_add(least)
+    }
+
+    /// The least sum of trunk leg and listed leg over allowed routes, or over forbidden ones. It is at most `FAR`.
+    fn least_where(&self, others: &[u32], distances: Fan<'_>, is_allowed: bool) -> u32 {
+        let (forth, back, trunk) = (distances.trunk, distances.other, self.legs.trunk);
+        let count = trunk.len().min(others.len());
+        let count = count.min(forth.len()).min(back.len());
+        let mut least = FAR;
+        for place in 0..count {
+            let legs = forth[place].wrapping_add(back[place]);
+            let is_in = distances.own.wrapping_add(legs) <= self.limit;
+            let sum = trunk[place].wrapping_add(others[place]);
+            least = least.min(if is_in == is_allowed { sum } else { FAR });
+        }
+        least
+    }
+
+    /// The length of the shortest forbidden route.
+    pub(crate) fn shortest_barred(&self) -> u32 {
+        let Some(distances) = self.distances else {
+            return FAR
+        };
+        let least = self.least_where(self.legs.other, distances, false);
+        self.legs.own.wrapping_add(least)
     }
 }

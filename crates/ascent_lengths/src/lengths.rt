@@ -3,9 +3,8 @@
 ghost use Rattle.std.specs.Prelude.{◌≤◌};
 
 use crate::commodity::Commodity;
-use crate::distances::Distances;
 use crate::rows::{FAR, at, put, row, row_mut};
-use crate::tables::{Legs, Tables};
+use crate::tables::{Distances, Legs, Tables};
 use crate::units::{Units, distance_unit};
 use hub_model::Instance;
 use std::alloc::{AllocError, Global};
@@ -33,9 +32,10 @@ pub struct Lengths {
     /// The surcharge of a hub set for each commodity that it is infeasible for, in 10^-12: more than any feasible set
     /// costs.
     pub lack_cost: i128,
+    /// The fixed cost of each place, in 10^-12.
+    pub fixed_costs: Vec<i128>,
     units: Units,
     flows: Vec<u32>,
-    fixed_costs: Vec<i128>,
 }
 
 impl Lengths {
@@ -43,32 +43,51 @@ impl Lengths {
     pub fn new(alloc: Global, instance: &Instance) -> Result<Lengths, AllocError> {
         let size = instance.size() as usize;
         let places = instance.candidates().len();
-        let units = Units::of(instance);
-        let legs = legs_of(alloc, instance, Measure::of(instance, units))?;
+        let factors = [instance.collect(), instance.trunk(), instance.deliver()];
+        let units = Units::of(instance, factors);
+        let legs = legs_of(alloc, instance, units.length, factors)?;
         let distances = distances_of(alloc, instance)?;
+        let mut flows = flows_in(alloc, instance, units.flow)?;
         let are_even = legs.are_even()
             && distances.as_ref().is_none_or(|some| some.legs.are_even());
-        let mut flows = flows_in(alloc, instance, units.flow)?;
-        let are_merged = are_even && may_merge(&flows, size);
-        if are_merged {
-            merge(&mut flows, size);
-        }
-        let fixed_costs = fixed_costs(alloc, instance)?;
         let mut lengths = Lengths {
             size,
             places,
-            wanted: wanted_hubs(instance),
-            units,
-            are_merged,
-            flowing: flowing(&flows),
-            lack_cost: lack_cost(&flows, units, &fixed_costs),
-            flows,
-            fixed: fixed_in(alloc, &fixed_costs, units)?,
-            fixed_costs,
             tables: Tables::of(alloc, [size, places], legs, distances)?,
+            wanted: instance.wanted().map(|wanted| wanted as usize),
+            are_merged: are_even && merge(&mut flows, size),
+            flowing: flows.iter().filter(|flow| **flow > 0).count(),
+            fixed: Vec::with_capacity(alloc, places)?,
+            fixed_costs: Vec::with_capacity(alloc, places)?,
+            lack_cost: 0,
+            units,
+            flows,
         };
+        lengths.set_costs(instance)?;
         lengths.set_safe(alloc)?;
         Ok(lengths)
+    }
+
+    /// Sets the fixed costs, those per unit of flow and length (rounded down, and at most what sums of 64 bits hold), and
+    /// the surcharge: a little more than all commodities over the longest routes and all fixed costs together.
+    fn set_costs(&mut self, instance: &Instance) -> Result<(), AllocError> {
+        let worth = self.worth();
+        let mut flow = 1i128;
+        for some in &self.flows {
+            flow = flow.wrapping_add(*some as i128);
+        }
+        let routes = flow
+            .wrapping_mul(self.longest() as i128)
+            .wrapping_mul(worth);
+        self.lack_cost = routes.wrapping_add(1);
+        for k in instance.candidates() {
+            let cost = at(instance.fixed_costs(), *k as usize).min(1 << 120) as i128;
+            let fixed = (cost / worth.max(1)).clamp(0, 1 << 58) as i64;
+            self.fixed.push(fixed)?;
+            self.fixed_costs.push(cost)?;
+            self.lack_cost = self.lack_cost.wrapping_add(cost);
+        }
+        Ok(())
     }
 
     /// With `--max-length`, sets the lengths below which all routes of a commodity are allowed.
@@ -76,10 +95,10 @@ impl Lengths {
         if !self.tables.has_limit() {
             return Ok(());
         }
-        let mut safe = vec![in alloc; FAR; self.commodities()]?;
+        let mut safe = Vec::with_capacity(alloc, self.commodities())?;
         for i in 0..self.size {
-            for (j, safe) in row_mut(&mut safe, i, self.size).iter_mut().enumerate() {
-                *safe = Commodity::of(&self.tables, i, j).shortest_barred();
+            for j in 0..self.size {
+                safe.push(Commodity::of(&self.tables, i, j).shortest_barred())?;
             }
         }
         if let Some(distances) = &mut self.tables.distances {
@@ -135,11 +154,6 @@ impl Lengths {
         at(&self.flows, commodity)
     }
 
-    /// The fixed cost of the place, in 10^-12.
-    pub fn fixed_cost(&self, k: usize) -> i128 {
-        at(&self.fixed_costs, k)
-    }
-
     /// The fixed costs of the marked places together, in 10^-12.
     pub fn fixed_cost_of(&self, marks: &[bool]) -> i128 {
         let mut cost = 0i128;
@@ -152,63 +166,34 @@ impl Lengths {
     }
 }
 
-/// The unit of lengths, and the factors of distances.
-#[derive(Clone, Copy)]
-struct Measure {
+/// The distance between two nodes times the factor, in this unit.
+fn leg(instance: &Instance, unit: u64, factor: u64, nodes: [usize; 2]) -> u32 {
+    let row = row(instance.distances(), nodes[0], instance.size() as usize);
+    let leg = factor.wrapping_mul(at(row, nodes[1])) / unit.max(1);
+    leg.min(FAR as u64) as u32
+}
+
+/// The legs of the instance in this unit, at these factors of collection, trunk legs and delivery.
+fn legs_of(
+    alloc: Global,
+    instance: &Instance,
     unit: u64,
-    collect: u64,
-    trunk: u64,
-    deliver: u64,
-}
-
-impl Measure {
-    /// The instance's factors, in these units.
-    fn of(instance: &Instance, units: Units) -> Measure {
-        Measure {
-            unit: units.length.max(1),
-            collect: instance.collect(),
-            trunk: instance.trunk(),
-            deliver: instance.deliver(),
-        }
-    }
-
-    /// Distances alone, in this unit.
-    fn plain(unit: u64) -> Measure {
-        Measure {
-            unit: unit.max(1),
-            collect: 1,
-            trunk: 1,
-            deliver: 1,
-        }
-    }
-
-    /// The leg between two nodes at a factor.
-    fn leg(&self, instance: &Instance, factor: u64, from: usize, to: usize) -> u32 {
-        let size = instance.size() as usize;
-        let distance = at(
-            instance.distances(),
-            from.wrapping_mul(size).wrapping_add(to),
-        );
-        let leg = factor.wrapping_mul(distance) / self.unit.max(1);
-        leg.min(FAR as u64) as u32
-    }
-}
-
-/// The legs of the instance in this measure.
-fn legs_of(alloc: Global, instance: &Instance, measure: Measure) -> Result<Legs, AllocError> {
+    factors: [u64; 3],
+) -> Result<Legs, AllocError> {
+    let [collect, trunk, deliver] = factors;
     let size = instance.size() as usize;
     let candidates = instance.candidates();
     let mut legs = Legs::new(alloc, size, candidates.len())?;
     for (x, k) in candidates.iter().enumerate() {
         let k = *k as usize;
         for i in 0..size {
-            let collect = measure.leg(instance, measure.collect, i, k);
-            let deliver = measure.leg(instance, measure.deliver, k, i);
-            put(legs.collect.row_mut(i), x, collect);
-            put(legs.deliver.row_mut(i), x, deliver);
+            let to_place = leg(instance, unit, collect, [i, k]);
+            let from_place = leg(instance, unit, deliver, [k, i]);
+            put(legs.collect.row_mut(i), x, to_place);
+            put(legs.deliver.row_mut(i), x, from_place);
         }
-        for (leg, m) in legs.trunk.row_mut(x).iter_mut().zip(candidates) {
-            *leg = measure.leg(instance, measure.trunk, k, *m as usize);
+        for (onward, m) in legs.trunk.row_mut(x).iter_mut().zip(candidates) {
+            *onward = leg(instance, unit, trunk, [k, *m as usize]);
         }
     }
     legs.turn(candidates.len());
@@ -222,69 +207,33 @@ fn distances_of(alloc: Global, instance: &Instance) -> Result<Option<Distances>,
     };
     let unit = distance_unit(instance);
     Ok(Some(Distances {
-        legs: legs_of(alloc, instance, Measure::plain(unit))?,
+        legs: legs_of(alloc, instance, unit, [1, 1, 1])?,
         limit: (limit / unit.max(1)).min(FAR as u64 - 1) as u32,
         safe_below: Vec::new(alloc),
     }))
 }
 
-/// Returns whether the flows of a commodity and its reverse fit 32 bits together.
-fn may_merge(flows: &[u32], size: usize) -> bool {
-    for i in 0..size {
-        for j in 0..i {
-            let back = at(row(flows, j, size), i);
-            if at(row(flows, i, size), j).checked_add(back).is_none() {
-                return false;
+/// Merges each commodity with its reverse, and returns whether the flows of both fit 32 bits together; if not, nothing
+/// is changed. So that origins get about equally many, the flow goes to the one from the lesser node where the sum of
+/// the two nodes is even.
+fn merge(flows: &mut [u32], size: usize) -> bool {
+    for is_trial in [true, false] {
+        for i in 0..size {
+            for j in 0..i {
+                let back = at(row(flows, j, size), i);
+                let Some(both) = at(row(flows, i, size), j).checked_add(back) else {
+                    return false;
+                };
+                let is_even = i.wrapping_add(j) % 2 == 0;
+                let (from, to) = if is_even { (j, i) } else { (i, j) };
+                if !is_trial {
+                    put(row_mut(flows, from, size), to, both);
+                    put(row_mut(flows, to, size), from, 0);
+                }
             }
         }
     }
     true
-}
-
-/// Merges each commodity with its reverse. So that origins get about equally many, the flow goes to the one from the
-/// lesser node where the sum of the two nodes is even.
-fn merge(flows: &mut [u32], size: usize) {
-    for i in 0..size {
-        for j in 0..i {
-            let both = at(row(flows, i, size), j).wrapping_add(at(row(flows, j, size), i));
-            let (from, to) = if i.wrapping_add(j) % 2 == 0 {
-                (j, i)
-            } else {
-                (i, j)
-            };
-            put(row_mut(flows, from, size), to, both);
-            put(row_mut(flows, to, size), from, 0);
-        }
-    }
-}
-
-/// The number of flows above 0.
-fn flowing(flows: &[u32]) -> usize {
-    let mut count = 0usize;
-    for flow in flows {
-        count = count.wrapping_add((*flow).min(1) as usize);
-    }
-    count
-}
-
-/// A little more than all commodities over the longest routes and all fixed costs together, in 10^-12.
-fn lack_cost(flows: &[u32], units: Units, fixed_costs: &[i128]) -> i128 {
-    let mut flow = 1i128;
-    for some in flows {
-        flow = flow.wrapping_add(*some as i128);
-    }
-    let worth = (units.length as i128).wrapping_mul(units.flow as i128);
-    let mut cost = flow.wrapping_mul(units.longest as i128).wrapping_mul(worth);
-    for fixed in fixed_costs {
-        cost = cost.wrapping_add(*fixed);
-    }
-    cost.wrapping_add(1)
-}
-
-/// The number p of hubs, if exactly p are required.
-fn wanted_hubs(instance: &Instance) -> Option<usize> {
-    let wanted = instance.wanted()?;
-    Some(wanted as usize)
 }
 
 /// The flows in this unit, rounded; one above 0 stays above 0.
@@ -295,27 +244,4 @@ fn flows_in(alloc: Global, instance: &Instance, unit: u64) -> Result<Vec<u32>, A
         flows.push(rounded.min(u32::MAX as u64) as u32)?;
     }
     Ok(flows)
-}
-
-/// The fixed costs by place, in 10^-12.
-fn fixed_costs(alloc: Global, instance: &Instance) -> Result<Vec<i128>, AllocError> {
-    let mut fixed = Vec::with_capacity(alloc, instance.candidates().len())?;
-    for k in instance.candidates() {
-        let cost = at(instance.fixed_costs(), *k as usize);
-        fixed.push(cost.min(1 << 120) as i128)?;
-    }
-    Ok(fixed)
-}
-
-/// Fixed costs in the cost of one unit of flow and length, rounded down, and at most what sums of 64 bits hold.
-fn fixed_in(alloc: Global, costs: &[i128], units: Units) -> Result<Vec<i64>, AllocError> {
-    let worth = (units.length as u128)
-        .wrapping_mul(units.flow as u128)
-        .max(1);
-    let mut fixed = Vec::with_capacity(alloc, costs.len())?;
-    for cost in costs {
-        let cost = (*cost).max(0) as u128 / worth;
-        fixed.push(cost.min(1 << 58) as i64)?;
-    }
-    Ok(fixed)
 }

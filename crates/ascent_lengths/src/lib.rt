@@ -6,14 +6,13 @@
 //! one code.
 //!
 //! In the order of reading: `rows` (vectors and tables, with the inner loops that take most of the time), `units`
-//! (the units of lengths and flows), `distances` (which routes `--max-length` allows). Then `tables` (the legs over
-//! some places), `lengths` (the instance), `commodity` (the routes of a commodity). Last `asked` (the values that
-//! routes require of places at a price), `workers` (how many threads share the work).
+//! (the units of lengths and flows), `tables` (the legs over some places), `lengths` (the instance), `commodity` (the
+//! routes of a commodity). Last `asked` (the values that routes require of places at a price), `workers` (how many
+//! threads share the work).
 #![tactic(auto)]
 
 mod asked;
 mod commodity;
-mod distances;
 mod lengths;
 mod rows;
 mod tables;
@@ -21,11 +20,11 @@ mod units;
 mod workers;
 
 pub use asked::PlaceValues;
-pub use commodity::{Commodity, HubRoutes, Others};
+pub use commodity::{Commodity, Ends, HubRoutes};
 pub use lengths::Lengths;
 pub use rows::{
-    FAR, NONE, add, add_weighed, at, copy, fill, gather, least_sum, lower, lower_reduced, marked,
-    put, raise, row, row_mut, set_differences, set_sums, short, small, weighed, weighed_by,
+    FAR, NONE, add, at, copy, fill, gather, least_sum, lower, lower_reduced, marked, put, raise,
+    row, row_mut, set_sums, short, small,
 };
 pub use tables::{Legs, Table, Tables};
-pub use workers::{MOST_WORKERS, Workers};
+pub use workers::Workers;

@@ -40,13 +40,7 @@ pub fn at<T: Copy + Default + Drop>(items: &[T], index: usize) -> T {
 
 /// The number of marks that are set.
 pub fn marked(marks: &[bool]) -> usize {
-    let mut count = 0usize;
-    for mark in marks {
-        if *mark {
-            count = count.wrapping_add(1);
-        }
-    }
-    count
+    marks.iter().filter(|mark| **mark).count()
 }
 
 /// Sets the item at this index, if there is one.
@@ -105,14 +99,6 @@ pub fn set_sums(some: &[u32], others: &[u32], into: &mut [u32]) {
     }
 }
 
-/// Sets each item to the difference of the two at its index.
-pub fn set_differences(some: &[i32], others: &[i32], into: &mut [i32]) {
-    let count = into.len().min(some.len()).min(others.len());
-    for place in 0..count {
-        into[place] = some[place].wrapping_sub(others[place]);
-    }
-}
-
 /// Raises each item by the other one, by at most `most`.
 pub fn raise(items: &mut [i32], others: &[i32], most: i32) {
     let count = items.len().min(others.len());
@@ -138,43 +124,4 @@ pub fn lower_reduced(items: &mut [i32], base: i32, lengths: &[i32], potentials: 
             .wrapping_sub(potentials[place]);
         items[place] = items[place].min(reduced);
     }
-}
-
-/// Adds the numbers times the flow to the items, as far as both slices go.
-pub fn add_weighed(flow: i64, numbers: &[u32], into: &mut [i64]) {
-    let count = into.len().min(numbers.len());
-    for place in 0..count {
-        into[place] = into[place].wrapping_add(flow.wrapping_mul(numbers[place] as i64));
-    }
-}
-
-/// The sum of the flows times the least of three lengths: the present one, and two by way of a place, `straight` and
-/// `turned` from the origin to it.
-pub fn weighed_by(
-    flows: &[u32],
-    now: &[u32],
-    straight: u32,
-    onward: &[u32],
-    turned: u32,
-    last: &[u32],
-) -> u64 {
-    let count = flows.len().min(now.len()).min(onward.len()).min(last.len());
-    let mut sum = 0u64;
-    for place in 0..count {
-        let forth = straight.wrapping_add(onward[place]);
-        let back = turned.wrapping_add(last[place]);
-        let length = now[place].min(forth).min(back);
-        sum = sum.wrapping_add((length as u64).wrapping_mul(flows[place] as u64));
-    }
-    sum
-}
-
-/// The sum of the flows times their lengths.
-pub fn weighed(flows: &[u32], lengths: &[u32]) -> u64 {
-    let mut sum = 0u64;
-    let count = flows.len().min(lengths.len());
-    for place in 0..count {
-        sum = sum.wrapping_add((lengths[place] as u64).wrapping_mul(flows[place] as u64));
-    }
-    sum
 }

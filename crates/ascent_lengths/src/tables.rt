@@ -1,6 +1,5 @@
 //! The legs of routes over some places, as tables row by row.
 
-use crate::distances::Distances;
 use crate::rows::{FAR, at, gather, least_sum, put, row, row_mut};
 use std::alloc::{AllocError, Global};
 
@@ -101,15 +100,20 @@ impl Legs {
         Ok(legs)
     }
 
-    /// Returns whether trunk legs are symmetric.
-    fn has_even_trunk(&self) -> bool {
-        self.trunk.cells.as_slice() == self.trunk_back.cells.as_slice()
-    }
-
     /// Returns whether all legs are symmetric.
     pub(crate) fn are_even(&self) -> bool {
-        self.collect.cells.as_slice() == self.deliver.cells.as_slice() && self.has_even_trunk()
+        self.collect.cells.as_slice() == self.deliver.cells.as_slice()
+            && self.trunk.cells.as_slice() == self.trunk_back.cells.as_slice()
     }
+}
+
+/// Distances in the same tables as the legs, in a unit of their own, and the limit. `safe_below` has for each commodity
+/// a length below which all of its routes are allowed.
+#[derive(Drop)]
+pub(crate) struct Distances {
+    pub(crate) legs: Legs,
+    pub(crate) limit: u32,
+    pub(crate) safe_below: Vec<u32>,
 }
 
 /// The legs of an instance over some places, with the least lengths of two legs, and distances where `--max-length`
@@ -126,8 +130,6 @@ pub struct Tables {
     pub(crate) collect_near: Table,
     /// To each destination from each place, the least length of trunk leg and delivery.
     pub(crate) deliver_near: Table,
-    /// Whether trunk legs are symmetric.
-    pub(crate) has_even_trunk: bool,
     pub(crate) distances: Option<Distances>,
 }
 
@@ -147,7 +149,6 @@ impl Tables {
                 .collect
                 .least_sums(alloc, size, &legs.trunk_back, places)?,
             deliver_near: legs.deliver.least_sums(alloc, size, &legs.trunk, places)?,
-            has_even_trunk: legs.has_even_trunk(),
             legs,
             distances,
         })

@@ -3,8 +3,6 @@
 //! The unit of lengths divides them all, and is as fine as possible while flows need no rounding. Where no divisor is
 //! great enough, lengths are rounded; where lengths and flows together are too great, flows are rounded.
 
-ghost use Rattle.std.specs.Prelude.{◌≤◌};
-
 use hub_model::Instance;
 
 /// The greatest length of a route, in the unit of lengths.
@@ -26,82 +24,65 @@ pub(crate) struct Units {
 
 impl Units {
     /// The units that fit the instance.
-    pub(crate) fn of(instance: &Instance) -> Units {
-        let flows = Flows::of(instance);
-        let (length, longest) = length_unit(instance, flows.most_length());
+    pub(crate) fn of(instance: &Instance, factors: [u64; 3]) -> Units {
+        let flows = Numbers::of(instance.flows());
+        let distances = Numbers::of(instance.distances());
+        let factors = Numbers::of(&factors);
+        let common = flows.common.max(1);
+        let longest = factors.total.wrapping_mul(distances.most);
+        // The greatest length of the longest route at which flows need no rounding.
+        let single = MOST_SINGLE / (flows.most / common).max(1);
+        let all = MOST_TOTAL / (flows.total / common).max(1);
+        let most = single.min(all).clamp(1, MOST_LENGTH);
+        let exact = distances.common.wrapping_mul(factors.common);
+        let least = longest.div_ceil(MOST_LENGTH).max(1);
+        let length = finest(exact, longest.div_ceil(most)).max(least);
+        let longest = (longest / length).min(MOST_LENGTH);
+        let least = (flows.most.wrapping_mul(longest.max(1)))
+            .div_ceil(MOST_SINGLE)
+            .max((flows.total.wrapping_mul(longest.max(1))).div_ceil(MOST_TOTAL))
+            .max(flows.most.div_ceil(MOST_FLOW));
         Units {
-            length,
-            flow: flows.unit(longest),
-            longest,
+            length: narrow(length),
+            flow: narrow(common.wrapping_mul(least.max(1).div_ceil(common))),
+            longest: longest as u32,
         }
     }
 }
 
-/// The flows of an instance: their common divisor, the greatest and the sum, in 10^-6.
+/// The unit of distances: their greatest common divisor, or a coarser unit in which none is above `MOST_LENGTH`.
+pub(crate) fn distance_unit(instance: &Instance) -> u64 {
+    let distances = Numbers::of(instance.distances());
+    narrow(distances.common.max(distances.most.div_ceil(MOST_LENGTH)))
+}
+
+/// The greatest common divisor of some numbers, at least 1, the greatest of them, and their sum.
 #[derive(Drop)]
-struct Flows {
+struct Numbers {
     common: u128,
     most: u128,
     total: u128,
 }
 
-impl Flows {
-    /// The flows of the instance.
-    fn of(instance: &Instance) -> Flows {
-        Flows {
-            common: common_divisor(instance.flows()).max(1) as u128,
-            most: greatest(instance.flows()) as u128,
-            total: sum(instance.flows()),
+impl Numbers {
+    fn of(numbers: &[u64]) -> Numbers {
+        let (mut common, mut most, mut total) = (0, 0, 0u128);
+        for number in numbers {
+            common = divisor(common, *number);
+            most = most.max(*number);
+            total = total.wrapping_add(*number as u128);
+        }
+        Numbers {
+            common: common.max(1) as u128,
+            most: most as u128,
+            total,
         }
     }
-
-    /// The greatest length of the longest route at which flows need no rounding.
-    fn most_length(&self) -> u128 {
-        let common = self.common.max(1);
-        let single = MOST_SINGLE / (self.most / common).max(1);
-        let all = MOST_TOTAL / (self.total / common).max(1);
-        single.min(all).min(MOST_LENGTH).max(1)
-    }
-
-    /// The unit of flows, given a bound on the length of routes.
-    fn unit(&self, longest: u32) -> u64 {
-        let longest = longest.max(1) as u128;
-        let least = self
-            .most
-            .wrapping_mul(longest)
-            .div_ceil(MOST_SINGLE)
-            .max(self.total.wrapping_mul(longest).div_ceil(MOST_TOTAL))
-            .max(self.most.div_ceil(MOST_FLOW));
-        let unit = self
-            .common
-            .wrapping_mul(least.div_ceil(self.common.max(1)).max(1));
-        unit.min(u64::MAX as u128) as u64
-    }
 }
 
-/// The unit of distances: their greatest common divisor, or a coarser unit in which none is above `MOST_LENGTH`.
-pub(crate) fn distance_unit(instance: &Instance) -> u64
-    ensures { 1 ≤ result }
-{
-    let least = (greatest(instance.distances()) as u128).div_ceil(MOST_LENGTH);
-    let least = least.min(u64::MAX as u128) as u64;
-    common_divisor(instance.distances()).max(least).max(1)
-}
-
-/// The unit of lengths and the longest route in it. It is no finer than one in which the longest route is `most`.
-fn length_unit(instance: &Instance, most: u128) -> (u64, u32) {
-    let distances = common_divisor(instance.distances());
-    let factors = divisor(
-        divisor(instance.collect(), instance.trunk()),
-        instance.deliver(),
-    );
-    let exact = (distances.max(1) as u128).wrapping_mul(factors.max(1) as u128);
-    let all = instance.collect() as u128 + instance.trunk() as u128 + instance.deliver() as u128;
-    let longest = all.wrapping_mul(greatest(instance.distances()) as u128);
-    let unit = finest(exact, longest.div_ceil(most.max(1)));
-    let unit = unit.max(longest.div_ceil(MOST_LENGTH)).max(1);
-    let longest = (longest / unit).min(MOST_LENGTH) as u32;
-    (unit.min(u64::MAX as u128) as u64, longest)
+/// The number in 64 bits, or `u64::MAX` if it does not fit.
+fn narrow(number: u128) -> u64 {
+    number.min(u64::MAX as u128) as u64
 }
 
 /// A small divisor of the unit that is not below the least, or the unit.
@@ -119,45 +100,15 @@ fn finest(unit: u128, least: u128) -> u128 {
     finest
 }
 
-/// The greatest of the numbers, or 0.
-fn greatest(numbers: &[u64]) -> u64 {
-    let mut most = 0;
-    for number in numbers {
-        most = most.max(*number);
-    }
-    most
-}
-
-/// The sum of the numbers.
-fn sum(numbers: &[u64]) -> u128 {
-    let mut sum = 0u128;
-    for number in numbers {
-        sum = sum.wrapping_add(*number as u128);
-    }
-    sum
-}
-
-/// The greatest common divisor of the numbers, or 0.
-fn common_divisor(numbers: &[u64]) -> u64 {
-    let mut common = 0;
-    for number in numbers {
-        common = divisor(common, *number);
-    }
-    common
-}
-
 /// The greatest common divisor of two numbers.
 fn divisor(some: u64, other: u64) -> u64 {
-    let mut high = some;
-    let mut low = other;
+    let (mut high, mut low) = (some, other);
     // Two turns halve the numbers at least.
     for _ in 0..128 {
         if low == 0 {
             break;
         }
-        let rest = high % low;
-        high = low;
-        low = rest;
+        (high, low) = (low, high % low);
     }
     high
 }

@@ -4,9 +4,6 @@ ghost use Rattle.std.specs.Prelude.{◌≤◌};
 
 use std::alloc::Global;
 
-/// The greatest number of workers that share a job.
-pub const MOST_WORKERS: u32 = 64;
-
 /// The workers of a job: how many there are, and what they take memory from.
 #[derive(Drop)]
 pub struct Workers<'a, R> {
@@ -19,10 +16,10 @@ pub struct Workers<'a, R> {
 }
 
 impl<R> Workers<'_, R> {
-    /// The number of workers that share a job in blocks.
+    /// The number of workers that share a job in blocks: from 1 to 64.
     pub fn many(&self) -> u32
         ensures { (1 ≤ result) × (result ≤ 64) }
     {
-        self.count.clamp(1, MOST_WORKERS)
+        self.count.clamp(1, 64)
     }
 }

@@ -6,9 +6,9 @@
 
 ghost use Rattle.dual_ascent.specs.Shapes.{KeepsShape};
 
-use crate::origins::{Stand, Terms, View};
-use crate::ramps::{NO_RAMP, Ramp};
-use crate::schedule::{NO_ORIGIN, ScheduledOrigin, Window, schedule};
+use crate::origins::{Stand, Terms};
+use crate::ramps::{NO_RAMP, NO_TURN, Ramp, Turn};
+use crate::schedule::{Window, schedule};
 use crate::seen::Core;
 use crate::sharing::better_together;
 use crate::state::State;
@@ -18,11 +18,14 @@ use ascent_lengths::{Lengths, Workers, add, copy, fill, gather, put, row, row_mu
 use std::alloc::{AllocError, Global};
 use std::thread::Threads;
 
-/// What a pass reads besides the duals: what all origins share, their order, and how many are under way at a time.
+/// What a pass reads besides the duals: the instance, the core, the terms over it, the order of the origins, and how
+/// many are under way at a time.
 #[derive(Clone, Copy)]
 pub(crate) struct Pass<'a> {
-    pub(crate) view: View<'a>,
-    pub(crate) origins: &'a [ScheduledOrigin],
+    pub(crate) lengths: &'a Lengths,
+    pub(crate) core: &'a Core,
+    pub(crate) terms: Terms<'a>,
+    pub(crate) origins: &'a [Turn],
     pub(crate) window: Window,
 }
 
@@ -34,15 +37,6 @@ struct InTurn {
 }
 
 impl InTurn {
-    /// A workspace for this many nodes and places.
-    fn new(alloc: Global, size: usize, places: usize) -> Result<InTurn, AllocError> {
-        let rows = Window::of(size).origins;
-        Ok(InTurn {
-            stand: Stand::new(alloc, places)?,
-            under_way: vec![in alloc; 0; rows.wrapping_mul(places)]?,
-        })
-    }
-
     /// Improves the duals of one origin after another, updates the sums, and returns the gain.
     fn better_all(
         &mut self,
@@ -51,23 +45,23 @@ impl InTurn {
         values: &mut [u32],
         sums: &mut Sums,
     ) -> Gain {
-        let lengths = pass.view.lengths;
-        let count = pass.view.core.count();
+        let lengths = pass.lengths;
+        let count = pass.core.count();
         let rows = pass.window.origins.max(1);
         fill(&mut self.under_way, 0);
         let mut all = NO_GAIN;
-        for (place, scheduled) in pass.origins.iter().enumerate() {
-            let i = scheduled.origin;
-            let changes = row_mut(&mut self.under_way, place % rows, count);
+        for (position, turn) in pass.origins.iter().enumerate() {
+            let i = turn.place;
+            let changes = row_mut(&mut self.under_way, position % rows, count);
             add(changes, &mut sums.loads);
             let gain = self.stand.better(
-                pass.view,
+                pass,
                 &sums.loads,
                 i,
                 row_mut(quotes, i, lengths.size),
                 row_mut(values, i, lengths.origin_values()),
             );
-            copy(self.stand.changes(), changes);
+            copy(&self.stand.changes, changes);
             sums.total = sums.total.wrapping_add(gain.prices);
             all.add(gain);
         }
@@ -84,19 +78,23 @@ pub struct Bench {
     core: Core,
     ramps: Vec<Ramp>,
     sums: Sums,
-    origins: Vec<ScheduledOrigin>,
+    origins: Vec<Turn>,
     in_turn: InTurn,
 }
 
 impl Bench {
     /// A workspace for passes that see these places.
     pub fn new(alloc: Global, lengths: &Lengths, places: &[usize]) -> Result<Bench, AllocError> {
+        let rows = Window::of(lengths.size).origins;
         Ok(Bench {
             core: Core::of(alloc, lengths, places)?,
             ramps: vec![in alloc; NO_RAMP; places.len()]?,
             sums: Sums::new(alloc, places.len())?,
-            origins: vec![in alloc; NO_ORIGIN; lengths.size]?,
-            in_turn: InTurn::new(alloc, lengths.size, places.len())?,
+            origins: vec![in alloc; NO_TURN; lengths.size]?,
+            in_turn: InTurn {
+                stand: Stand::new(alloc, places.len())?,
+                under_way: vec![in alloc; 0; rows.wrapping_mul(places.len())]?,
+            },
         })
     }
 
@@ -138,31 +136,22 @@ impl State {
     {
         schedule(lengths, &self.quotes, &mut bench.origins);
         bench.begin(terms.ramps, &self.sums);
-        let window = Window::of(lengths.size);
-        let terms = Terms {
-            ramps: &bench.ramps,
-            caps: terms.caps,
-            little: terms.little,
-            hubs: terms.hubs,
-            extra: terms.extra,
-            coarse: terms.coarse,
-        };
+        let mut terms = terms;
+        terms.ramps = &bench.ramps;
         let pass = Pass {
-            view: View {
-                lengths,
-                core: &bench.core,
-                terms,
-                copies: window.copies,
-            },
+            lengths,
+            core: &bench.core,
+            terms,
             origins: &bench.origins,
-            window,
+            window: Window::of(lengths.size),
         };
+        let (quotes, values) = (&mut self.quotes, &mut self.values);
         let gain = better_pass(
             workers,
             pass,
             &mut bench.in_turn,
-            &mut self.quotes,
-            &mut self.values,
+            quotes,
+            values,
             &mut bench.sums,
         );
         bench.end(&mut self.sums);

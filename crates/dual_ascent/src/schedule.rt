@@ -1,5 +1,6 @@
 //! The order of the origins in a pass, those with the most steps first, and how many are under way at a time.
 
+use crate::ramps::Turn;
 use crate::waits::Quote;
 use ascent_lengths::{Lengths, row, short};
 
@@ -27,49 +28,23 @@ impl Window {
     }
 
     /// How many origins are finished when the one at this position starts.
-    pub(crate) fn over_before(self, place: usize) -> usize {
-        place.wrapping_add(1).saturating_sub(self.origins)
+    pub(crate) fn over_before(self, position: usize) -> usize {
+        position.wrapping_add(1).saturating_sub(self.origins)
     }
 }
 
-/// An origin, and how many of its commodities the next pass leaves out.
-#[derive(Clone, Copy, PartialEq, Eq, PartialOrd, Ord)]
-pub(crate) struct ScheduledOrigin {
-    left_out: usize,
-    pub(crate) origin: usize,
-}
-
-/// An origin to fill vectors with.
-pub(crate) const NO_ORIGIN: ScheduledOrigin = ScheduledOrigin {
-    left_out: 0,
-    origin: 0,
-};
-
 /// Sorts the origins by how many of their commodities the next pass leaves out, the fewest first.
-pub(crate) fn schedule(lengths: &Lengths, quotes: &[Quote], origins: &mut [ScheduledOrigin]) {
-    for i in 0..origins.len() {
-        let quotes = row(quotes, i, lengths.size);
-        let left_out = left_out(quotes, lengths.flows(i));
-        origins[i] = ScheduledOrigin {
-            left_out,
-            origin: i,
+pub(crate) fn schedule(lengths: &Lengths, quotes: &[Quote], origins: &mut [Turn]) {
+    for (i, turn) in origins.iter_mut().enumerate() {
+        let quotes = row(quotes, i, lengths.size).iter();
+        let left_out = quotes
+            .zip(lengths.flows(i))
+            .filter(|(quote, flow)| **flow == 0 || quote.wait.goes_on())
+            .count();
+        *turn = Turn {
+            rank: short(left_out) as i64,
+            place: i,
         };
     }
     origins.sort_unstable();
-}
-
-/// How many commodities with these back-offs and flows the next pass leaves out.
-fn left_out(quotes: &[Quote], flows: &[u32]) -> usize {
-    let mut count = 0usize;
-    for (quote, flow) in quotes.iter().zip(flows) {
-        if *flow == 0 || quote.wait.goes_on() {
-            count = count.wrapping_add(1);
-        }
-    }
-    count
-}
-
-/// The origin at this position of the list, or 0 past its end.
-pub(crate) fn origin_at(origins: &[ScheduledOrigin], place: usize) -> usize {
-    origins.get(place).map_or(0, |scheduled| scheduled.origin)
 }

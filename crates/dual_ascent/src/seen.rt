@@ -6,11 +6,11 @@
 use ascent_lengths::{Lengths, Tables};
 use std::alloc::{AllocError, Global};
 
-/// Some places, ascending, and the tables over them.
+/// Some places, ascending, and the tables over them, by their indices in the core.
 #[derive(Drop)]
 pub struct Core {
     places: Vec<usize>,
-    tables: Tables,
+    pub(crate) tables: Tables,
 }
 
 impl Core {
@@ -30,10 +30,5 @@ impl Core {
     /// The number of its places.
     pub fn count(&self) -> usize {
         self.places.len()
-    }
-
-    /// The tables over them, by their indices in the core.
-    pub fn tables(&self) -> &Tables {
-        &self.tables
     }
 }

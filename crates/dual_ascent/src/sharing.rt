@@ -8,7 +8,6 @@ ghost use denote.Param.Send.{IsSync};
 
 use crate::origins::Stand;
 use crate::passes::Pass;
-use crate::schedule::origin_at;
 use crate::sums::Sums;
 use crate::waits::{Gain, NO_GAIN, Quote};
 use ascent_lengths::{Lengths, Workers, add, copy, row, row_mut, short};
@@ -32,61 +31,52 @@ impl Told<()> for Bettered {
     }
 }
 
-/// The new duals of an origin: all prices with their back-offs, and the values of the commodities that changed.
-#[derive(Drop)]
-struct OriginDuals {
-    origin: usize,
-    quotes: Vec<Quote>,
-    changed: Vec<usize>,
-    values: Vec<u32>,
-}
-
-impl OriginDuals {
-    /// The changed duals of an origin, from its values before and after.
-    fn of(
-        alloc: Global,
-        origin: usize,
-        quotes: Vec<Quote>,
-        before: &[u32],
-        values: &[u32],
-        places: usize,
-    ) -> Result<OriginDuals, AllocError> {
-        let mut duals = OriginDuals {
-            origin,
-            quotes,
-            changed: Vec::new(alloc),
-            values: Vec::new(alloc),
-        };
-        for j in 0..duals.quotes.len() {
-            let row_after = row(values, j, places);
-            if row_after != row(before, j, places) {
-                duals.changed.push(j)?;
-                duals.values.extend_from_slice(row_after)?;
-            }
-        }
-        Ok(duals)
-    }
-
-    /// Writes them in place of the old ones.
-    fn put(&self, lengths: &Lengths, quotes: &mut [Quote], values: &mut [u32]) {
-        copy(&self.quotes, row_mut(quotes, self.origin, lengths.size));
-        let values = row_mut(values, self.origin, lengths.origin_values());
-        for (number, j) in self.changed.iter().enumerate() {
-            let places = lengths.places;
-            copy(
-                row(&self.values, number, places),
-                row_mut(values, *j, places),
-            );
-        }
-    }
-}
-
-/// The results of workers: the duals of the origins that they improved, and sums and gain of the whole pass.
+/// The results of a worker: prices and back-offs of the origins that it improved, the values of the commodities that
+/// changed, and sums and gain of the whole pass.
 #[derive(Drop)]
 struct Crop {
-    duals: Vec<OriginDuals>,
+    origins: Vec<usize>,
+    quotes: Vec<Quote>,
+    commodities: Vec<usize>,
+    values: Vec<u32>,
     sums: Sums,
     gain: Gain,
+}
+
+impl Crop {
+    /// Takes in the duals of an origin, given its values before and after.
+    fn take(
+        &mut self,
+        lengths: &Lengths,
+        origin: usize,
+        quotes: &[Quote],
+        before: &[u32],
+        after: &[u32],
+    ) -> Result<(), AllocError> {
+        self.origins.push(origin)?;
+        self.quotes.extend_from_slice(quotes)?;
+        for j in 0..lengths.size {
+            let values = row(after, j, lengths.places);
+            if values != row(before, j, lengths.places) {
+                let commodity = origin.wrapping_mul(lengths.size).wrapping_add(j);
+                self.commodities.push(commodity)?;
+                self.values.extend_from_slice(values)?;
+            }
+        }
+        Ok(())
+    }
+
+    /// Writes the duals in place of the old ones.
+    fn put(&self, lengths: &Lengths, quotes: &mut [Quote], values: &mut [u32]) {
+        let (size, places) = (lengths.size, lengths.places);
+        for (number, i) in self.origins.iter().enumerate() {
+            copy(row(&self.quotes, number, size), row_mut(quotes, *i, size));
+        }
+        for (number, c) in self.commodities.iter().enumerate() {
+            let found = row(&self.values, number, places);
+            copy(found, row_mut(values, *c, places));
+        }
+    }
 }
 
 /// What the workers share: the pass, duals and sums at its start, and the next task numbers.
@@ -112,27 +102,7 @@ struct Share<'a> {
     crop: Crop,
 }
 
-impl<'a> Share<'a> {
-    fn new(
-        alloc: Global,
-        shared: Shared<'a>,
-        desk: Desk<(), Bettered>,
-    ) -> Result<Share<'a>, AllocError> {
-        let lengths = shared.pass.view.lengths;
-        Ok(Share {
-            shared,
-            partner: Partner::new(alloc, shared.tickets, desk),
-            stand: Stand::new(alloc, shared.pass.view.core.count())?,
-            values: vec![in alloc; 0; lengths.origin_values()]?,
-            over: 0,
-            crop: Crop {
-                duals: Vec::new(alloc),
-                sums: shared.sums.copied(alloc)?,
-                gain: NO_GAIN,
-            },
-        })
-    }
-
+impl Share<'_> {
     // Adds the results of the origins before this position to the sums.
     fn settle(&mut self, place: usize) -> Result<(), AllocError> {
         for before in self.over..place {
@@ -151,61 +121,65 @@ impl<'a> Share<'a> {
     // Improves the origin at this position, and sends the result.
     fn better(&mut self, alloc: Global, place: usize) -> Result<(), AllocError> {
         let shared = self.shared;
-        let lengths = shared.pass.view.lengths;
-        let i = origin_at(shared.pass.origins, place);
+        let lengths = shared.pass.lengths;
+        let i = shared.pass.origins.get(place).map_or(0, |turn| turn.place);
         let mut quotes = row(shared.quotes, i, lengths.size).to_vec(alloc)?;
         let before = row(shared.values, i, lengths.origin_values());
         copy(before, &mut self.values);
-        let gain = self.stand.better(
-            shared.pass.view,
-            &self.crop.sums.loads,
-            i,
-            &mut quotes,
-            &mut self.values,
-        );
-        let duals = OriginDuals::of(alloc, i, quotes, before, &self.values, lengths.places)?;
-        self.crop.duals.push(duals)?;
-        let changes = self.stand.changes().to_vec(alloc)?;
-        self.partner.tell(
-            alloc,
-            Bettered {
-                place,
-                gain,
-                changes,
-            },
-        )
-    }
-
-    // Works until the pass ends.
-    fn follow(mut self, alloc: Global) -> Result<Crop, AllocError> {
-        let window = self.shared.pass.window;
-        let origins = self.shared.pass.origins.len();
-        for _ in 0..origins {
-            let place = self.partner.ticket().min(origins as u64) as usize;
-            if place >= origins {
-                break;
-            }
-            let over = window.over_before(place);
-            self.settle(over)?;
-            self.better(alloc, place)?;
-        }
-        self.settle(origins)?;
-        Ok(self.crop)
+        let loads = &self.crop.sums.loads;
+        let gain = self
+            .stand
+            .better(shared.pass, loads, i, &mut quotes, &mut self.values);
+        self.crop.take(lengths, i, &quotes, before, &self.values)?;
+        let told = Bettered {
+            place,
+            gain,
+            changes: self.stand.changes.to_vec(alloc)?,
+        };
+        self.partner.tell(alloc, told)
     }
 }
 
-impl<'a> Shared<'a> {
-    /// Works as the peer of this ring until the pass ends, and signals that it ended or failed.
-    fn follow(self, alloc: Global, desk: Desk<(), Bettered>) -> Result<Crop, AllocError> {
-        let followed = match Share::new(alloc, self, desk) {
-            Ok(share) => share.follow(alloc),
-            Err(error) => Err(error),
+impl Shared<'_> {
+    // Works as the peer of this ring until the pass ends.
+    fn work(self, alloc: Global, desk: Desk<(), Bettered>) -> Result<Crop, AllocError> {
+        let pass = self.pass;
+        let mut share = Share {
+            shared: self,
+            partner: Partner::new(alloc, self.tickets, desk),
+            stand: Stand::new(alloc, pass.core.count())?,
+            values: vec![in alloc; 0; pass.lengths.origin_values()]?,
+            over: 0,
+            crop: Crop {
+                origins: Vec::new(alloc),
+                quotes: Vec::new(alloc),
+                commodities: Vec::new(alloc),
+                values: Vec::new(alloc),
+                sums: self.sums.copied(alloc)?,
+                gain: NO_GAIN,
+            },
         };
-        match followed {
+        let origins = pass.origins.len();
+        for _ in 0..origins {
+            let place = share.partner.ticket().min(origins as u64) as usize;
+            if place >= origins {
+                break;
+            }
+            share.settle(pass.window.over_before(place))?;
+            share.better(alloc, place)?;
+        }
+        share.settle(origins)?;
+        Ok(share.crop)
+    }
+
+    // The same, and signals that it ended or failed.
+    fn follow(self, alloc: Global, desk: Desk<(), Bettered>) -> Result<Crop, AllocError> {
+        let crop = self.work(alloc, desk);
+        match crop {
             Ok(_) => self.tickets.finish(),
             Err(_) => self.tickets.end(),
         }
-        followed
+        crop
     }
 }
 
@@ -216,22 +190,23 @@ fn together<R: Threads + Sync>(
     alloc: Global,
     shared: Shared<'_>,
     mut desks: Vec<Desk<(), Bettered>>,
-) -> Result<Crop, AllocError> {
+) -> Result<Vec<Crop>, AllocError> {
     let Some(desk) = desks.pop() else {
-        return Err(AllocError);
+        return Ok(Vec::new(alloc));
     };
     if desks.is_empty() {
-        return shared.follow(alloc, desk);
+        let mut crops = Vec::new(alloc);
+        crops.push(shared.follow(alloc, desk)?)?;
+        return Ok(crops);
     }
-    let others = move || -> Result<Crop, AllocError>
+    let others = move || -> Result<Vec<Crop>, AllocError>
         requires { IsSync R.row }
     { together(rt, alloc, shared, desks) };
     let mine = move || -> Result<Crop, AllocError> { shared.follow(alloc, desk) };
     let (others, mine) = join(rt, others, mine);
-    let mut crop = mine?;
-    let mut more = others?;
-    crop.duals.append(&mut more.duals)?;
-    Ok(crop)
+    let mut crops = others?;
+    crops.push(mine?)?;
+    Ok(crops)
 }
 
 /// Makes the pass by several workers, at most as many as origins are under way. Updates duals and sums and returns the
@@ -253,10 +228,11 @@ pub(crate) fn better_together<R: Threads + Sync>(
         sums,
         tickets: &tickets,
     };
-    let crop = together(workers.rt, workers.alloc, shared, desks)?;
-    for duals in &crop.duals {
-        duals.put(pass.view.lengths, quotes, values);
+    let mut gain = NO_GAIN;
+    for crop in &together(workers.rt, workers.alloc, shared, desks)? {
+        crop.put(pass.lengths, quotes, values);
+        sums.take(&crop.sums);
+        gain = crop.gain;
     }
-    sums.take(&crop.sums);
-    Ok(crop.gain)
+    Ok(gain)
 }

@@ -30,38 +30,26 @@ impl Change {
     }
 }
 
-/// The changes of a step.
+/// The present loads of the places with their penalties, and the changes of the step that is made next.
 #[derive(Drop)]
-pub(crate) struct Step {
+pub(crate) struct Steps {
+    pub(crate) loads: Vec<i64>,
+    pub(crate) prices: Vec<i64>,
     changes: Vec<Change>,
 }
 
-/// The loads and penalties of the places, which the step updates.
-#[derive(Drop)]
-pub(crate) struct Following<'a> {
-    pub(crate) loads: &'a mut [i64],
-    pub(crate) prices: &'a mut [i64],
-    /// Penalties up to this one count as 0.
-    pub(crate) coarse: i64,
-}
-
-impl Step {
-    /// A step over this many places.
-    pub(crate) fn new(alloc: Global, places: usize) -> Result<Step, AllocError> {
-        Ok(Step {
+impl Steps {
+    /// Steps over this many places.
+    pub(crate) fn new(alloc: Global, places: usize) -> Result<Steps, AllocError> {
+        Ok(Steps {
+            loads: vec![in alloc; 0; places]?,
+            prices: vec![in alloc; 0; places]?,
             changes: Vec::with_capacity(alloc, places)?,
         })
     }
 
     /// Lists the changes of the step from the old values to the new ones. A unit of value adds `weight` to a load.
-    pub(crate) fn list(
-        &mut self,
-        old: &[u32],
-        new: &[u32],
-        ramps: &[Ramp],
-        loads: &[i64],
-        weight: i64,
-    ) {
+    pub(crate) fn list(&mut self, old: &[u32], new: &[u32], ramps: &[Ramp], weight: i64) {
         self.changes.clear();
         let count = ramps.len().min(old.len()).min(new.len());
         for place in 0..count {
@@ -71,7 +59,7 @@ impl Step {
                     place,
                     old: old[place],
                     new: new[place],
-                    load: at(loads, place),
+                    load: at(&self.loads, place),
                     weight,
                     ramp: ramps[place],
                 });
@@ -103,28 +91,23 @@ impl Step {
         slope
     }
 
-    /// Makes this many parts of the step, and updates the values of these places, loads and penalties. Returns whether
-    /// other places than before have a penalty that counts.
+    /// Makes this many parts of the step, and updates the values of these places, loads and penalties. Penalties up to
+    /// `coarse` count as 0. Returns whether other places than before have a penalty that counts.
     pub(crate) fn take(
-        &self,
+        &mut self,
         parts: u32,
         places: &[usize],
         values: &mut [u32],
-        following: Following<'_>,
+        coarse: i64,
     ) -> bool {
-        let Following {
-            loads,
-            prices,
-            coarse,
-        } = following;
+        let (loads, prices) = (self.loads.as_mut_slice(), self.prices.as_mut_slice());
         let mut is_other = false;
         for change in &self.changes {
-            let value = mixed_up(change.old, change.new, parts);
+            let value = narrow(weighed_sum(change.old, change.new, parts).div_ceil(PARTS as u64));
             let added = change.weight.wrapping_mul(value as i64 - change.old as i64);
             let load = change.load.wrapping_add(added);
             let price = change.ramp.price(load);
-            let before = at(prices, change.place);
-            is_other |= (price > coarse) != (before > coarse);
+            is_other |= (price > coarse) != (at(prices, change.place) > coarse);
             put(values, at(places, change.place), value);
             put(loads, change.place, load);
             put(prices, change.place, price);
@@ -134,15 +117,8 @@ impl Step {
 }
 
 /// `parts` 64ths of the way from the old number to the new one, rounded down.
-pub(crate) fn mixed_down(old: u32, new: u32, parts: u32) -> u32 {
-    let sum = weighed_sum(old, new, parts) / PARTS as u64;
-    sum.min(u32::MAX as u64) as u32
-}
-
-/// `parts` 64ths of the way from the old number to the new one, rounded up.
-fn mixed_up(old: u32, new: u32, parts: u32) -> u32 {
-    let sum = weighed_sum(old, new, parts).div_ceil(PARTS as u64);
-    sum.min(u32::MAX as u64) as u32
+pub(crate) fn mixed(old: u32, new: u32, parts: u32) -> u32 {
+    narrow(weighed_sum(old, new, parts) / PARTS as u64)
 }
 
 /// The sum of 64 numbers: `parts` times the new one, else the old one.
@@ -150,4 +126,9 @@ fn weighed_sum(old: u32, new: u32, parts: u32) -> u64 {
     let left = PARTS.saturating_sub(parts) as u64;
     left.wrapping_mul(old as u64)
         .wrapping_add((parts as u64).wrapping_mul(new as u64))
+}
+
+/// The number in 32 bits, or `u32::MAX` if it does not fit.
+fn narrow(number: u64) -> u32 {
+    number.min(u32::MAX as u64) as u32
 }

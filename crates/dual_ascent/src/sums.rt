@@ -1,7 +1,7 @@
 //! The sums of the duals of all commodities, and the bound by them.
 
 use crate::origins::Terms;
-use ascent_lengths::{Lengths, add, add_weighed, at, copy, fill};
+use ascent_lengths::{Lengths, add, at, copy, fill};
 use dual_flow::FULL_PRICE;
 use search_advice::Side;
 use std::alloc::{AllocError, Global};
@@ -47,7 +47,10 @@ impl Sums {
     /// Adds the dual of a commodity with this flow, price and values.
     pub fn add_dual(&mut self, flow: i64, price: u32, values: &[u32]) {
         self.total = self.total.wrapping_add(flow.wrapping_mul(price as i64));
-        add_weighed(flow, values, &mut self.loads);
+        let loads = self.loads.as_mut_slice();
+        for k in 0..loads.len().min(values.len()) {
+            loads[k] = loads[k].wrapping_add(flow.wrapping_mul(values[k] as i64));
+        }
     }
 
     /// Sets all sums to 0.
@@ -71,86 +74,56 @@ impl Sums {
         sum / FULL_PRICE as i128
     }
 
-    /// The bound of a branch with these sides by the Benders cut of these sums, in 10^-12.
+    /// The bound of a branch with these sides by the Benders cut of these sums, in 10^-12. For exactly p hubs it has
+    /// those inside, and of the free places those with the least reduced cost.
     ///
     /// Without `--hubs` some hub must be open, which could raise the bound where no hub is inside. A cut has no
     /// constant for that, so it is not used.
     pub fn bound(&self, lengths: &Lengths, sides: &[Side]) -> i128 {
-        match lengths.wanted {
-            None => self.free_bound(lengths, sides),
-            Some(hubs) => self.exact_bound(lengths, sides, hubs),
-        }
-    }
-
-    /// The bound without `--hubs`.
-    fn free_bound(&self, lengths: &Lengths, sides: &[Side]) -> i128 {
         let mut bound = (self.total as i128).wrapping_mul(lengths.worth());
+        let mut left = lengths.wanted.unwrap_or(0);
         for (k, side) in sides.iter().enumerate() {
-            let rest = self.rest(lengths, k).cost;
-            let added = match *side {
-                Side::In => rest,
-                Side::Free => rest.min(0),
-                Side::Out => 0,
-            };
-            bound = bound.wrapping_add(added);
-        }
-        bound
-    }
-
-    /// The bound for exactly `hubs` hubs: those inside, and of the free places those with the least reduced cost.
-    fn exact_bound(&self, lengths: &Lengths, sides: &[Side], hubs: usize) -> i128 {
-        let mut bound = (self.total as i128).wrapping_mul(lengths.worth());
-        let mut left = hubs;
-        for (k, side) in sides.iter().enumerate() {
+            let rest = self.rest(lengths, k).0;
             if *side == Side::In {
-                bound = bound.wrapping_add(self.rest(lengths, k).cost);
+                bound = bound.wrapping_add(rest);
                 left = left.saturating_sub(1);
+            } else if *side == Side::Free && lengths.wanted.is_none() {
+                bound = bound.wrapping_add(rest.min(0));
             }
         }
-        let mut last = None;
+        let mut last = (i128::MIN, 0);
         for _ in 0..left {
             let Some(next) = self.next_rest(lengths, sides, last) else {
                 break;
             };
-            bound = bound.wrapping_add(next.cost);
-            last = Some(next);
+            bound = bound.wrapping_add(next.0);
+            last = next;
         }
         bound
     }
 
-    /// The reduced cost of opening the place, in 10^-12: its fixed cost less its load.
-    fn rest(&self, lengths: &Lengths, place: usize) -> Rest {
+    /// The reduced cost of opening the place, in 10^-12 (its fixed cost less its load), with the place.
+    fn rest(&self, lengths: &Lengths, place: usize) -> (i128, usize) {
         let load = (at(&self.loads, place) as i128).wrapping_mul(lengths.worth());
-        Rest {
-            cost: lengths.fixed_cost(place).wrapping_sub(load),
-            place,
-        }
+        let fixed = at(&lengths.fixed_costs, place);
+        (fixed.wrapping_sub(load), place)
     }
 
-    /// The free place with the least reduced cost after the last one, if there is one.
-    fn next_rest(&self, lengths: &Lengths, sides: &[Side], last: Option<Rest>) -> Option<Rest> {
-        let mut found: Option<Rest> = None;
+    /// The least reduced cost of a free place after the last one, if there is one.
+    fn next_rest(
+        &self,
+        lengths: &Lengths,
+        sides: &[Side],
+        last: (i128, usize),
+    ) -> Option<(i128, usize)> {
+        let mut found: Option<(i128, usize)> = None;
         for (k, side) in sides.iter().enumerate() {
             let rest = self.rest(lengths, k);
-            let is_after = match last {
-                None => true,
-                Some(last) => last < rest,
-            };
-            let is_least = match found {
-                None => true,
-                Some(found) => rest < found,
-            };
-            if *side == Side::Free && is_after && is_least {
+            let is_least = found.is_none_or(|found| rest < found);
+            if *side == Side::Free && last < rest && is_least {
                 found = Some(rest);
             }
         }
         found
     }
-}
-
-/// The reduced cost of a place, in 10^-12.
-#[derive(Clone, Copy, PartialEq, Eq, PartialOrd, Ord)]
-struct Rest {
-    cost: i128,
-    place: usize,
 }

@@ -2,7 +2,7 @@
 
 use crate::network::{FULL_PRICE, Network};
 use crate::ways::Way;
-use ascent_lengths::{Commodity, FAR, Others, PlaceValues, at, gather, row, row_mut};
+use ascent_lengths::{Commodity, FAR, PlaceValues, at, gather};
 use std::alloc::{AllocError, Global};
 
 /// From this many priced places on, all of them are tried for a cap.
@@ -17,20 +17,13 @@ pub struct Priced<'a> {
     pub places: &'a [usize],
 }
 
-/// A place as the only hub of a route: the route's length, and the place's penalty.
-#[derive(Clone, Copy, PartialEq, Eq, PartialOrd, Ord)]
-struct Single {
-    length: u32,
-    price: i64,
-}
-
-/// A solver of the best dual of a commodity, with the values that it found last. The legs of the places in the network
-/// are vectors of their own.
+/// A solver of the best dual of a commodity: the lengths of single routes with the places' penalties, the network with
+/// its places and their collection and delivery legs, and the values that it found last.
 #[derive(Drop)]
 pub struct BestDual {
     network: Network,
     way: Way,
-    singles: Vec<Single>,
+    singles: Vec<(u32, i64)>,
     places: Vec<usize>,
     collect: Vec<u32>,
     deliver: Vec<u32>,
@@ -61,8 +54,7 @@ impl BestDual {
     pub fn find(&mut self, legs: &Commodity<'_>, priced: Priced<'_>, cap: u32, last: u32) -> u32 {
         let cap = cap.min(self.single_cap(legs, priced, last));
         let legs = legs.below(cap);
-        self.list_near(&legs, priced.places, cap);
-        self.connect(&legs, priced.prices);
+        self.connect(&legs, priced, cap);
         let price = self.network.solve(cap, &mut self.way);
         self.found.begin(price);
         for (x, k) in self.places.iter().enumerate() {
@@ -83,18 +75,15 @@ impl BestDual {
     /// two units: one has room left before the last unit is sent, so an augmenting path no longer than its single route
     /// is open. Places near the last price mostly suffice.
     fn single_cap(&mut self, legs: &Commodity<'_>, priced: Priced<'_>, last: u32) -> u32 {
-        for more in [last / 16, last / 4, last] {
+        let is_thorough = last == 0 || priced.places.len() >= MANY;
+        let most = if is_thorough { FAR } else { last };
+        for more in [last / 16, last / 4, last, most] {
             let limit = last.saturating_add(more).min(FAR - 1);
-            if last > 0 {
-                if let Some(length) = self.cap_within(legs, priced, limit) {
-                    return length;
-                }
+            if let Some(length) = self.cap_within(legs, priced, limit) {
+                return length;
             }
         }
-        if last > 0 && priced.places.len() < MANY {
-            return FAR;
-        }
-        self.cap_within(legs, priced, FAR - 1).unwrap_or(FAR)
+        FAR
     }
 
     /// The same over single routes no longer than the limit; none if the penalties of their places are below two full
@@ -108,7 +97,7 @@ impl BestDual {
                 let price = at(priced.prices, *k);
                 sum = sum.wrapping_add(price);
                 // It succeeds, since there is room for all places.
-                let _ = self.singles.push(Single { length, price });
+                let _ = self.singles.push((length, price));
             }
         }
         if sum < 2 * FULL_PRICE {
@@ -116,50 +105,34 @@ impl BestDual {
         }
         self.singles.sort_unstable();
         let mut sum = 0i64;
-        for single in &self.singles {
-            sum = sum.wrapping_add(single.price);
+        for (length, price) in &self.singles {
+            sum = sum.wrapping_add(*price);
             if sum >= 2 * FULL_PRICE {
-                return Some(single.length);
+                return Some(*length);
             }
         }
         None
     }
 
-    /// Lists the priced places over which some route is shorter than the cap.
-    fn list_near(&mut self, legs: &Commodity<'_>, priced: &[usize], cap: u32) {
+    /// Builds the network of the priced places over which some route is shorter than the cap.
+    fn connect(&mut self, legs: &Commodity<'_>, priced: Priced<'_>, cap: u32) {
         self.places.clear();
-        for k in priced {
+        for k in priced.places {
             if legs.is_near(*k, cap) {
                 // It succeeds, since there is room for all places.
                 let _ = self.places.push(*k);
             }
         }
-    }
-
-    /// Builds the network of the listed places.
-    fn connect(&mut self, legs: &Commodity<'_>, prices: &[i64]) {
         let count = self.places.len();
+        gather(legs.ends.collect, &self.places, &mut self.collect);
+        gather(legs.ends.deliver, &self.places, &mut self.deliver);
+        let ends = [self.collect.as_slice(), self.deliver.as_slice()];
         self.network.begin(count);
-        gather(
-            legs.collect,
-            &self.places,
-            row_mut(&mut self.collect, 0, count),
-        );
-        gather(
-            legs.deliver,
-            &self.places,
-            row_mut(&mut self.deliver, 0, count),
-        );
-        let others = Others {
-            places: &self.places,
-            collect: row(&self.collect, 0, count),
-            deliver: row(&self.deliver, 0, count),
-        };
         for (x, k) in self.places.iter().enumerate() {
-            legs.set_pairs(*k, others, self.network.costs_mut(x, count));
+            legs.set_pairs(*k, &self.places, ends, self.network.costs_mut(x, count));
             self.network.end_row(x, count, legs.alone(*k));
-            let price = at(prices, *k).clamp(0, FULL_PRICE) as i32;
-            self.network.limit(x, price);
+            let price = at(priced.prices, *k).clamp(0, FULL_PRICE);
+            self.network.limit(x, price as i32);
         }
     }
 }

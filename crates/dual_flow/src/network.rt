@@ -6,9 +6,8 @@
 //! as long as a path is cheaper than the cap. Then the value of a place is half the sum of the potentials of its two
 //! copies.
 
-use ascent_lengths::{
-    NONE, at, fill, lower, lower_reduced, put, raise, row, row_mut, set_differences, short, small,
-};
+use crate::ways::Way;
+use ascent_lengths::{NONE, at, fill, lower, lower_reduced, put, raise, row, row_mut, small};
 use std::alloc::{AllocError, Global};
 
 /// The penalty of a place that is fully open: one full unit of flow.
@@ -21,18 +20,14 @@ const SHUT: i32 = i32::MAX;
 /// A limit on the number of augmenting paths.
 const MOST_WAYS: usize = 100_000;
 
-/// The copies of the places on one side.
-///
-/// Of a shortest-path search it has each copy's distance, the number in which it was reached (0: from the source), and
-/// the copy before it.
+/// The copies of the places on one side. Of a shortest-path search it has each copy's distance, and the number in which
+/// it was reached (0: from the source).
 #[derive(Drop)]
 pub(crate) struct Copies {
     pub(crate) capacities: Vec<i32>,
     pub(crate) potentials: Vec<i32>,
     distances: Vec<i32>,
-    shut: Vec<i32>,
     pub(crate) turns: Vec<i32>,
-    pub(crate) before: Vec<usize>,
 }
 
 impl Copies {
@@ -41,9 +36,7 @@ impl Copies {
             capacities: vec![in alloc; 0; room]?,
             potentials: vec![in alloc; 0; room]?,
             distances: vec![in alloc; 0; room]?,
-            shut: vec![in alloc; 0; room]?,
             turns: vec![in alloc; 0; room]?,
-            before: vec![in alloc; 0; room]?,
         })
     }
 
@@ -55,54 +48,30 @@ impl Copies {
 
     /// Raises each of this many potentials by its distance, but by no more than the sink's.
     fn raise(&mut self, width: usize, most: i32) {
-        raise(
-            row_mut(&mut self.potentials, 0, width),
-            &self.distances,
-            most,
-        );
-    }
-
-    /// Starts a search from those of this many copies that have capacity left.
-    fn leave(&mut self, width: usize) {
-        let rooms = row(&self.capacities, 0, width);
-        set_where_room(rooms, 0, NONE, &mut self.distances);
-        set_where_room(rooms, 0, NEVER, &mut self.turns);
-    }
-
-    /// Lowers the capacity that is left at a copy, and returns whether none is left.
-    pub(crate) fn use_up(&mut self, index: usize, amount: i32) -> bool {
-        let left = at(&self.capacities, index).wrapping_sub(amount);
-        put(&mut self.capacities, index, left);
-        left <= 0
+        let potentials = row_mut(&mut self.potentials, 0, width);
+        raise(potentials, &self.distances, most);
     }
 }
 
 /// The network: the copies of both sides, the arc costs and the flow.
 ///
-/// Flows stand in the row of the right copy, and `feeders` has a bit for each left copy with flow to it. `open` has a
-/// bit for each left copy with capacity left, and `base` the least arc costs from these, if `has_base`.
+/// Flows stand in the row of the right copy, and `feeders` has a bit for each left copy with flow to it. `base` has the
+/// least arc costs from left copies with capacity left, if `has_base`. In a search `shut` masks the distances of settled
+/// right copies, and `before` is the right copy before a left one.
 #[derive(Drop)]
 pub(crate) struct Network {
     count: usize,
     pub(crate) width: usize,
-    pub(crate) words: usize,
+    words: usize,
     costs: Vec<i32>,
-    pub(crate) flows: Vec<i32>,
-    pub(crate) feeders: Vec<u64>,
-    pub(crate) open: Vec<u64>,
-    reached: Vec<u64>,
+    flows: Vec<i32>,
+    feeders: Vec<u64>,
     base: Vec<i32>,
     pub(crate) has_base: bool,
-    numbers: Vec<i32>,
     pub(crate) left: Copies,
     pub(crate) right: Copies,
-}
-
-/// The result of a search: the distance of the sink, and the right copy before it, if the path is cheaper than the cap.
-#[derive(Clone, Copy)]
-pub(crate) struct End {
-    distance: i32,
-    pub(crate) last: Option<usize>,
+    shut: Vec<i32>,
+    pub(crate) before: Vec<usize>,
 }
 
 impl Network {
@@ -110,21 +79,19 @@ impl Network {
     pub(crate) fn new(alloc: Global, places: usize) -> Result<Network, AllocError> {
         let room = places.wrapping_add(1).div_ceil(8).wrapping_mul(8);
         let cells = room.wrapping_mul(room);
-        let words = room.div_ceil(64);
         Ok(Network {
             count: 0,
             width: 0,
             words: 0,
             costs: vec![in alloc; NONE; cells]?,
             flows: vec![in alloc; 0; cells]?,
-            feeders: vec![in alloc; 0; room.wrapping_mul(words)]?,
-            open: vec![in alloc; 0; words]?,
-            reached: vec![in alloc; 0; words]?,
+            feeders: vec![in alloc; 0; room.wrapping_mul(room.div_ceil(64))]?,
             base: vec![in alloc; NONE; room]?,
             has_base: false,
-            numbers: numbers(alloc, room)?,
             left: Copies::new(alloc, room)?,
             right: Copies::new(alloc, room)?,
+            shut: vec![in alloc; 0; room]?,
+            before: vec![in alloc; 0; room]?,
         })
     }
 
@@ -137,7 +104,6 @@ impl Network {
         fill(row_mut(&mut self.flows, 0, cells), 0);
         let words = self.count.wrapping_mul(self.words);
         fill(row_mut(&mut self.feeders, 0, words), 0);
-        fill(&mut self.open, 0);
         self.has_base = false;
         self.left.clear(self.width);
         self.right.clear(self.width);
@@ -149,15 +115,11 @@ impl Network {
     pub(crate) fn limit(&mut self, x: usize, capacity: i32) {
         put(&mut self.left.capacities, x, capacity);
         put(&mut self.right.capacities, x, capacity);
-        if capacity > 0 {
-            set_bit(&mut self.open, x);
-        }
     }
 
     /// The costs of the arcs from a place to this many places.
     pub(crate) fn costs_mut(&mut self, x: usize, places: usize) -> &mut [i32] {
-        let row = row_mut(&mut self.costs, x, self.width);
-        row_mut(row, 0, places)
+        row_mut(row_mut(&mut self.costs, x, self.width), 0, places)
     }
 
     /// Sets the cost of both arcs of a place as a single hub, and ends its row after this many places.
@@ -175,21 +137,16 @@ impl Network {
         );
     }
 
-    /// The cost of the arc from a left copy to a right one.
-    pub(crate) fn cost(&self, x: usize, m: usize) -> i32 {
-        at(row(&self.costs, x, self.width), m)
-    }
-
     /// Sends two full units of flow, and returns the potential of the sink, at most the cap.
-    pub(crate) fn solve(&mut self, cap: u32, way: &mut crate::ways::Way) -> u32 {
+    pub(crate) fn solve(&mut self, cap: u32, way: &mut Way) -> u32 {
         let mut sink = 0;
         let mut wanted = 2 * FULL_PRICE as i32;
         for _ in 0..MOST_WAYS {
-            let end = self.search(sink, small(cap));
-            self.left.raise(self.width, end.distance);
-            self.right.raise(self.width, end.distance);
-            sink = end.distance.wrapping_add(sink);
-            let Some(last) = end.last else { break };
+            let (distance, last) = self.search(sink, small(cap));
+            self.left.raise(self.width, distance);
+            self.right.raise(self.width, distance);
+            sink = distance.wrapping_add(sink);
+            let Some(last) = last else { break };
             let sent = way.send(self, last, sink, wanted);
             wanted = wanted.wrapping_sub(sent);
             if sent <= 0 || wanted <= 0 {
@@ -206,31 +163,23 @@ impl Network {
         left.wrapping_add(right).div_ceil(2)
     }
 
-    /// Finds the shortest path to the sink.
-    fn search(&mut self, sink: i32, cap: i32) -> End {
+    /// Finds the shortest path to the sink: its distance, and the right copy before it, if the path is cheaper than the
+    /// cap.
+    fn search(&mut self, sink: i32, cap: i32) -> (i32, Option<usize>) {
         self.leave_source();
         let mut turn = 1;
-        let mut end = End {
-            distance: cap.wrapping_sub(sink),
-            last: None,
-        };
+        let mut end = (cap.wrapping_sub(sink), None);
         for _ in 0..self.count {
-            let Some(m) = self.nearest(end.distance) else {
+            let Some(m) = self.nearest(end.0) else {
                 break;
             };
             let near = at(&self.right.distances, m);
             put(&mut self.right.turns, m, turn);
-            put(&mut self.right.shut, m, SHUT);
-            if at(&self.right.capacities, m) > 0 {
-                let distance = near
-                    .wrapping_add(at(&self.right.potentials, m))
-                    .wrapping_sub(sink);
-                if distance < end.distance {
-                    end = End {
-                        distance,
-                        last: Some(m),
-                    };
-                }
+            put(&mut self.shut, m, SHUT);
+            let potential = at(&self.right.potentials, m);
+            let distance = near.wrapping_add(potential).wrapping_sub(sink);
+            if at(&self.right.capacities, m) > 0 && distance < end.0 {
+                end = (distance, Some(m));
             }
             turn = self.go_back(m, near, turn.wrapping_add(1));
         }
@@ -244,11 +193,13 @@ impl Network {
         }
         let width = self.width;
         let distances = row_mut(&mut self.right.distances, 0, width);
-        set_differences(&self.base, &self.right.potentials, distances);
-        fill(row_mut(&mut self.right.shut, 0, width), 0);
+        fill(distances, NONE);
+        lower_reduced(distances, 0, &self.base, &self.right.potentials);
+        fill(row_mut(&mut self.shut, 0, width), 0);
         fill(row_mut(&mut self.right.turns, 0, width), NEVER);
-        self.left.leave(width);
-        ascent_lengths::copy(&self.open, &mut self.reached);
+        let rooms = row(&self.left.capacities, 0, width);
+        set_where_room(rooms, NONE, &mut self.left.distances);
+        set_where_room(rooms, NEVER, &mut self.left.turns);
     }
 
     /// Finds the least arc costs from left copies with capacity left.
@@ -266,8 +217,8 @@ impl Network {
     /// The nearest right copy that is not settled, if one is nearer than the limit.
     fn nearest(&self, limit: i32) -> Option<usize> {
         let distances = row(&self.right.distances, 0, self.width);
-        let (shut, numbers) = (self.right.shut.as_slice(), self.numbers.as_slice());
-        let count = distances.len().min(shut.len()).min(numbers.len());
+        let shut = self.shut.as_slice();
+        let count = distances.len().min(shut.len());
         let mut least = limit;
         for index in 0..count {
             least = least.min(distances[index] | shut[index]);
@@ -275,36 +226,36 @@ impl Network {
         if least >= limit {
             return None;
         }
-        let mut first = NONE;
+        let (mut first, mut number) = (NONE, 0i32);
         for index in 0..count {
-            let number = numbers[index];
             let is_least = distances[index] | shut[index] == least;
             first = first.min(if is_least { number } else { NONE });
+            number = number.wrapping_add(1);
         }
         Some(first.max(0) as usize)
     }
 
-    /// Follows flow backwards from a right copy to left ones, and relaxes the arcs of these. Returns the next number.
+    /// Follows flow backwards from a right copy to left ones that were not reached, and relaxes the arcs of these.
+    /// Returns the next number.
     fn go_back(&mut self, m: usize, near: i32, turn: i32) -> i32 {
         let mut turn = turn;
         for word in 0..self.words {
-            let known = at(&self.reached, word);
-            let mut bits = at(row(&self.feeders, m, self.words), word) & !known;
-            put(&mut self.reached, word, known | bits);
+            let mut bits = at(row(&self.feeders, m, self.words), word);
             // A word has so many bits at most.
             for _ in 0..64 {
                 if bits == 0 {
                     break;
                 }
-                let x = word
-                    .wrapping_mul(64)
-                    .wrapping_add(bits.trailing_zeros() as usize);
+                let bit = bits.trailing_zeros() as usize;
+                let x = word.wrapping_mul(64).wrapping_add(bit);
                 bits &= bits.wrapping_sub(1);
-                put(&mut self.left.distances, x, near);
-                put(&mut self.left.turns, x, turn);
-                put(&mut self.left.before, x, m);
-                turn = turn.wrapping_add(1);
-                self.go_on(x, near);
+                if at(&self.left.turns, x) == NEVER {
+                    put(&mut self.left.distances, x, near);
+                    put(&mut self.left.turns, x, turn);
+                    put(&mut self.before, x, m);
+                    turn = turn.wrapping_add(1);
+                    self.go_on(x, near);
+                }
             }
         }
         turn
@@ -313,12 +264,9 @@ impl Network {
     /// Relaxes the arcs from a left copy to all right ones.
     fn go_on(&mut self, x: usize, distance: i32) {
         let base = distance.wrapping_add(at(&self.left.potentials, x));
-        lower_reduced(
-            row_mut(&mut self.right.distances, 0, self.width),
-            base,
-            row(&self.costs, x, self.width),
-            &self.right.potentials,
-        );
+        let distances = row_mut(&mut self.right.distances, 0, self.width);
+        let costs = row(&self.costs, x, self.width);
+        lower_reduced(distances, base, costs, &self.right.potentials);
     }
 
     /// A left copy that was reached before the right one, with a tight arc to it.
@@ -327,50 +275,47 @@ impl Network {
         let potential = at(&self.right.potentials, m);
         let costs = row(&self.costs, m, self.width);
         let there = self.left.potentials.as_slice();
-        let (reached, numbers) = (self.left.turns.as_slice(), self.numbers.as_slice());
-        let count = costs.len().min(there.len());
-        let count = count.min(reached.len()).min(numbers.len());
-        let mut first = NONE;
+        let reached = self.left.turns.as_slice();
+        let count = costs.len().min(there.len()).min(reached.len());
+        let (mut first, mut number) = (NONE, 0i32);
         for x in 0..count {
-            let number = numbers[x];
             let is_tight = there[x].wrapping_add(costs[x]) == potential;
             let is_before = reached[x] < turn;
             first = first.min(if is_tight & is_before { number } else { NONE });
+            number = number.wrapping_add(1);
         }
         if first == NONE {
             return None;
         }
         Some(first.max(0) as usize)
     }
+
+    /// Returns whether the arc from a left copy to a right one is tight.
+    pub(crate) fn is_tight(&self, x: usize, m: usize) -> bool {
+        let cost = at(row(&self.costs, x, self.width), m);
+        cost.wrapping_add(at(&self.left.potentials, x)) == at(&self.right.potentials, m)
+    }
+
+    /// The flow from a left copy to a right one.
+    pub(crate) fn flow(&self, x: usize, m: usize) -> i32 {
+        at(row(&self.flows, m, self.width), x)
+    }
+
+    /// Adds to the flow from a left copy to a right one.
+    pub(crate) fn shift(&mut self, x: usize, m: usize, amount: i32) {
+        let flow = self.flow(x, m).wrapping_add(amount);
+        put(row_mut(&mut self.flows, m, self.width), x, flow);
+        if let Some(word) = row_mut(&mut self.feeders, m, self.words).get_mut(x / 64) {
+            let bit = 1 << (x % 64);
+            *word = if flow > 0 { *word | bit } else { *word & !bit };
+        }
+    }
 }
 
-/// Sets each item to `there` where capacity is left, else to `elsewhere`.
-fn set_where_room(rooms: &[i32], there: i32, elsewhere: i32, into: &mut [i32]) {
+/// Sets each item to 0 where capacity is left, else to `elsewhere`.
+fn set_where_room(rooms: &[i32], elsewhere: i32, into: &mut [i32]) {
     let count = rooms.len().min(into.len());
     for x in 0..count {
-        into[x] = if rooms[x] > 0 { there } else { elsewhere };
-    }
-}
-
-/// The numbers from 0 on.
-fn numbers(alloc: Global, count: usize) -> Result<Vec<i32>, AllocError> {
-    let mut numbers = Vec::with_capacity(alloc, count)?;
-    for number in 0..count {
-        numbers.push(small(short(number)))?;
-    }
-    Ok(numbers)
-}
-
-/// Sets the bit of this number.
-pub(crate) fn set_bit(words: &mut [u64], index: usize) {
-    if let Some(word) = words.get_mut(index / 64) {
-        *word |= 1 << (index % 64);
-    }
-}
-
-/// Clears the bit of this number.
-pub(crate) fn clear_bit(words: &mut [u64], index: usize) {
-    if let Some(word) = words.get_mut(index / 64) {
-        *word &= !(1 << (index % 64));
+        into[x] = if rooms[x] > 0 { 0 } else { elsewhere };
     }
 }

@@ -1,8 +1,7 @@
 //! Local search over hub sets: opens, closes or swaps hubs while that costs less. For exactly p hubs it only swaps.
 
 use crate::openings::{Move, OpenSet, Opening, Openings};
-use crate::routes::{NO_ROUTE, Route, SetRoutes};
-use ascent_lengths::{FAR, Lengths, Workers, at, copy, fill, put, row, row_mut};
+use ascent_lengths::{Lengths, Workers, at, copy, fill, put, row_mut};
 use std::alloc::{AllocError, Global};
 use std::thread::Threads;
 
@@ -20,26 +19,18 @@ pub struct Ground<'a, R> {
     pub movable: &'a [bool],
 }
 
-/// A local search with its workspace: the set, its routes, the lengths after one of its hubs is closed, and the
-/// workspace of a candidate.
+/// A local search: the set, and the workspace of a candidate.
 #[derive(Drop)]
 pub struct LocalSearch {
     set: OpenSet,
-    shortest: Vec<Route>,
     opening: Opening,
 }
 
 impl LocalSearch {
     /// A local search for this many nodes and places.
     pub fn new(alloc: Global, size: usize, places: usize) -> Result<LocalSearch, AllocError> {
-        let cells = size.wrapping_mul(size);
         Ok(LocalSearch {
-            set: OpenSet {
-                marks: vec![in alloc; false; places]?,
-                routes: SetRoutes::new(alloc, size, places)?,
-                base: vec![in alloc; FAR; cells]?,
-            },
-            shortest: vec![in alloc; NO_ROUTE; cells]?,
+            set: OpenSet::new(alloc, size, places)?,
             opening: Opening::new(alloc, size, places)?,
         })
     }
@@ -52,9 +43,9 @@ impl LocalSearch {
     /// The cost of the set, in 10^-12. An empty set costs `i128::MAX`.
     pub fn cost(&mut self, lengths: &Lengths, marks: &[bool]) -> i128 {
         copy(marks, &mut self.set.marks);
-        self.set_routes(lengths);
-        self.close(lengths, None);
-        self.cost_of_base(lengths, None)
+        self.set.set_routes(lengths);
+        self.set.close(lengths, None);
+        self.set.cost(lengths)
     }
 
     /// Improves the set by moves of the movable places, and returns its cost, in 10^-12.
@@ -84,7 +75,7 @@ impl LocalSearch {
         let lengths = ground.lengths;
         let least = self.cost(lengths, marks);
         fill(&mut self.set.marks, false);
-        self.set_routes(lengths);
+        self.set.set_routes(lengths);
         let Some(hubs) = lengths.wanted else {
             if self.open_all(ground, i128::MAX) <= least {
                 copy(&self.set.marks, marks);
@@ -104,13 +95,13 @@ impl LocalSearch {
         let mut least = i128::MAX;
         for h in 0..lengths.places {
             if at(&self.set.marks, h) {
-                self.close(lengths, Some(h));
-                least = least.min(self.cost_of_base(lengths, Some(h)));
+                self.set.close(lengths, Some(h));
+                least = least.min(self.set.cost(lengths));
             }
         }
         let rise = least.wrapping_sub(cost);
-        self.close(lengths, None);
-        let opened = self.best_move(ground, None, i128::MAX);
+        self.set.close(lengths, None);
+        let opened = self.best_move(ground, i128::MAX);
         let fall = cost.wrapping_sub(opened.cost);
         match (least < i128::MAX, opened.open.is_some()) {
             (true, true) => rise.wrapping_add(fall) / 2,
@@ -121,13 +112,12 @@ impl LocalSearch {
 
     /// The greatest fall of the routing cost by one hub more than the set that was found last, in 10^-12.
     pub fn most_saved(&mut self, lengths: &Lengths) -> i128 {
-        self.close(lengths, None);
+        self.set.close(lengths, None);
         let routes = self.set.routes_cost(lengths);
         let openings = Openings {
             lengths,
             movable: &[],
             set: &self.set,
-            closed: None,
             fixed: 0,
         };
         let mut most = 0;
@@ -172,8 +162,8 @@ impl LocalSearch {
         cost: i128,
     ) -> i128 {
         let lengths = ground.lengths;
-        self.close(lengths, closed);
-        let found = self.best_move(ground, closed, cost);
+        self.set.close(lengths, closed);
+        let found = self.best_move(ground, cost);
         if found.cost < cost {
             if let Some(h) = closed {
                 put(&mut self.set.marks, h, false);
@@ -181,81 +171,24 @@ impl LocalSearch {
             if let Some(k) = found.open {
                 put(&mut self.set.marks, k, true);
             }
-            self.set_routes(lengths);
+            self.set.set_routes(lengths);
         }
         found.cost
     }
 
-    /// The best move that closes this hub, or none, for a set of this cost.
-    fn best_move<R: Threads + Sync>(
-        &mut self,
-        ground: &Ground<'_, R>,
-        closed: Option<usize>,
-        cost: i128,
-    ) -> Move {
+    /// The best move from the set without its closed hub, where the set costs this much.
+    fn best_move<R: Threads + Sync>(&mut self, ground: &Ground<'_, R>, cost: i128) -> Move {
         let lengths = ground.lengths;
         let mut best = Move { open: None, cost };
-        if closed.is_some() && lengths.wanted.is_none() {
-            best.cost = cost.min(self.cost_of_base(lengths, closed));
+        if self.set.closed.is_some() && lengths.wanted.is_none() {
+            best.cost = cost.min(self.set.cost(lengths));
         }
-        let fixed = self.opening_cost(lengths, closed);
         let openings = Openings {
             lengths,
             movable: ground.movable,
             set: &self.set,
-            closed,
-            fixed,
+            fixed: self.set.fixed_cost(lengths),
         };
         openings.best(ground.workers, &mut self.opening, best)
-    }
-
-    /// Computes the shortest routes over the set.
-    fn set_routes(&mut self, lengths: &Lengths) {
-        self.set.routes.take(&lengths.tables, &self.set.marks);
-        for i in 0..lengths.size {
-            let routes = row_mut(&mut self.shortest, i, lengths.size);
-            for j in 0..routes.len() {
-                routes[j] = self.set.routes.shortest(&lengths.tables, i, j);
-            }
-        }
-    }
-
-    /// Sets the lengths to those over the set without this hub.
-    fn close(&mut self, lengths: &Lengths, closed: Option<usize>) {
-        let h = closed.unwrap_or(usize::MAX);
-        for i in 0..lengths.size {
-            let shortest = row(&self.shortest, i, lengths.size);
-            let base = row_mut(&mut self.set.base, i, lengths.size);
-            let count = base.len().min(shortest.len());
-            for j in 0..count {
-                base[j] = if closed.is_some() && shortest[j].uses(h) {
-                    self.set.routes.without(&lengths.tables, i, j, [h, h])
-                } else {
-                    shortest[j].length
-                };
-            }
-        }
-    }
-
-    /// The fixed costs of the set without this hub, in 10^-12.
-    fn opening_cost(&self, lengths: &Lengths, closed: Option<usize>) -> i128 {
-        let all = lengths.fixed_cost_of(&self.set.marks);
-        match closed {
-            Some(h) if at(&self.set.marks, h) => all.wrapping_sub(lengths.fixed_cost(h)),
-            _ => all,
-        }
-    }
-
-    /// The cost of the set without this hub, in 10^-12; `i128::MAX` if no hub is left.
-    fn cost_of_base(&self, lengths: &Lengths, closed: Option<usize>) -> i128 {
-        let mut hubs = self.set.routes.hubs().len();
-        if closed.is_some() {
-            hubs = hubs.saturating_sub(1);
-        }
-        if hubs == 0 {
-            return i128::MAX;
-        }
-        let routes = self.set.routes_cost(lengths);
-        routes.wrapping_add(self.opening_cost(lengths, closed))
     }
 }

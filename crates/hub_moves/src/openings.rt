@@ -1,9 +1,8 @@
 //! The cost of a hub set with one more hub. Workers try the candidates in blocks.
 
-use crate::routes::SetRoutes;
+use crate::routes::{NO_ROUTE, Route, SetRoutes};
 use ascent_lengths::{
-    Commodity, FAR, Lengths, Workers, at, fill, gather, least_sum, put, row, short, weighed,
-    weighed_by,
+    Commodity, FAR, Lengths, Workers, at, fill, least_sum, put, row, row_mut, short,
 };
 use claim_board::{Job, answers};
 use hub_io::OpenGate;
@@ -23,52 +22,112 @@ pub(crate) struct Move {
     pub(crate) cost: i128,
 }
 
-/// A hub set as marks, its routes, and the length of each commodity's route over it, or over the set without one hub.
+/// The lengths of some commodities' routes: the sum of flow times length, and how many have flow and no route.
+#[derive(Clone, Copy)]
+struct Tally {
+    sum: u64,
+    lacked: u64,
+}
+
+impl Tally {
+    fn add(&mut self, flow: u32, length: u32) {
+        self.sum = self
+            .sum
+            .wrapping_add((flow as u64).wrapping_mul(length as u64));
+        self.lacked = self.lacked.wrapping_add((flow > 0 && length >= FAR) as u64);
+    }
+
+    /// The cost, in 10^-12. A commodity without a route adds more than any feasible set costs.
+    fn cost(self, lengths: &Lengths) -> i128 {
+        let lacking = (self.lacked as i128).wrapping_mul(lengths.lack_cost);
+        (self.sum as i128)
+            .wrapping_mul(lengths.worth())
+            .wrapping_add(lacking)
+    }
+}
+
+/// A hub set as marks, with its routes and the shortest one of each commodity. One of its hubs may be closed: `base` has
+/// the lengths over the others.
 #[derive(Drop)]
 pub(crate) struct OpenSet {
     pub(crate) marks: Vec<bool>,
     pub(crate) routes: SetRoutes,
-    pub(crate) base: Vec<u32>,
+    shortest: Vec<Route>,
+    pub(crate) closed: Option<usize>,
+    base: Vec<u32>,
 }
 
 impl OpenSet {
-    /// The routing cost of these lengths, in 10^-12. A commodity without an allowed route adds more than any feasible
-    /// set costs.
-    pub(crate) fn routes_cost(&self, lengths: &Lengths) -> i128 {
-        let mut sum = 0u64;
-        let mut lacked = 0u64;
+    /// An empty set for this many nodes and places.
+    pub(crate) fn new(alloc: Global, size: usize, places: usize) -> Result<OpenSet, AllocError> {
+        let cells = size.wrapping_mul(size);
+        Ok(OpenSet {
+            marks: vec![in alloc; false; places]?,
+            routes: SetRoutes::new(alloc, size, places)?,
+            shortest: vec![in alloc; NO_ROUTE; cells]?,
+            closed: None,
+            base: vec![in alloc; FAR; cells]?,
+        })
+    }
+
+    /// Computes the shortest routes over the marked places.
+    pub(crate) fn set_routes(&mut self, lengths: &Lengths) {
+        self.routes.take(&lengths.tables, &self.marks);
         for i in 0..lengths.size {
-            let (flows, base) = (lengths.flows(i), row(&self.base, i, lengths.size));
-            sum = sum.wrapping_add(weighed(flows, base));
-            if lengths.tables.has_limit() {
-                lacked = lacked.wrapping_add(lacking(flows, base));
+            let routes = row_mut(&mut self.shortest, i, lengths.size);
+            for (j, route) in routes.iter_mut().enumerate() {
+                *route = self.routes.shortest(&lengths.tables, i, j);
             }
         }
-        cost_of(lengths, sum, lacked)
     }
-}
 
-/// The cost of this sum of flow times length, and of this many commodities without a route.
-fn cost_of(lengths: &Lengths, sum: u64, lacked: u64) -> i128 {
-    let lacking = (lacked as i128).wrapping_mul(lengths.lack_cost);
-    (sum as i128)
-        .wrapping_mul(lengths.worth())
-        .wrapping_add(lacking)
-}
-
-/// The number of commodities that have flow and no route.
-fn lacking(flows: &[u32], base: &[u32]) -> u64 {
-    let mut count = 0u64;
-    for (flow, length) in flows.iter().zip(base) {
-        if *flow > 0 && *length >= FAR {
-            count = count.wrapping_add(1);
+    /// Closes this hub alone, or none.
+    pub(crate) fn close(&mut self, lengths: &Lengths, closed: Option<usize>) {
+        self.closed = closed;
+        for i in 0..lengths.size {
+            let base = row_mut(&mut self.base, i, lengths.size);
+            let routes = base.iter_mut().zip(row(&self.shortest, i, lengths.size));
+            for (j, (length, route)) in routes.enumerate() {
+                *length = match closed {
+                    Some(h) if route.first == h || route.last == h => {
+                        self.routes.without(&lengths.tables, [i, j], [h, h]).length
+                    }
+                    _ => route.length,
+                };
+            }
         }
     }
-    count
+
+    /// The routing cost without the closed hub, in 10^-12.
+    pub(crate) fn routes_cost(&self, lengths: &Lengths) -> i128 {
+        let mut tally = Tally { sum: 0, lacked: 0 };
+        for i in 0..lengths.size {
+            let base = row(&self.base, i, lengths.size);
+            for (flow, length) in lengths.flows(i).iter().zip(base) {
+                tally.add(*flow, *length);
+            }
+        }
+        tally.cost(lengths)
+    }
+
+    /// The fixed costs without the closed hub, in 10^-12.
+    pub(crate) fn fixed_cost(&self, lengths: &Lengths) -> i128 {
+        let closed = self.closed.map_or(0, |h| at(&lengths.fixed_costs, h));
+        lengths.fixed_cost_of(&self.marks).wrapping_sub(closed)
+    }
+
+    /// The cost without the closed hub, in 10^-12; `i128::MAX` if no hub is left.
+    pub(crate) fn cost(&self, lengths: &Lengths) -> i128 {
+        if self.routes.hubs().len() <= self.closed.is_some() as usize {
+            return i128::MAX;
+        }
+        self.routes_cost(lengths)
+            .wrapping_add(self.fixed_cost(lengths))
+    }
 }
 
-/// The workspace of one candidate: the trunk legs between it and the hubs, and the lengths from it to each destination,
-/// by hubs or directly.
+/// The workspace of a candidate: the trunk legs from it to the hubs and back; for each destination the shortest way
+/// onward from it, and the delivery leg from it.
 #[derive(Drop)]
 pub(crate) struct Opening {
     to_hubs: Vec<u32>,
@@ -92,70 +151,72 @@ impl Opening {
     /// Sets, for each destination, the shortest way onward from the place, by a hub other than the closed one or
     /// directly.
     fn set_ways(&mut self, openings: &Openings<'_, '_>, k: usize) {
-        let (tables, routes) = (&openings.lengths.tables, &openings.set.routes);
+        let (legs, routes) = (&openings.lengths.tables.legs, &openings.set.routes);
         fill(&mut self.to_hubs, FAR);
         fill(&mut self.from_hubs, FAR);
-        gather(tables.legs.trunk.row(k), routes.hubs(), &mut self.to_hubs);
-        gather(
-            tables.legs.trunk_back.row(k),
-            routes.hubs(),
-            &mut self.from_hubs,
-        );
         for (e, h) in routes.hubs().iter().enumerate() {
-            if openings.closed == Some(*h) {
-                put(&mut self.to_hubs, e, FAR);
-                put(&mut self.from_hubs, e, FAR);
+            if openings.set.closed != Some(*h) {
+                put(&mut self.to_hubs, e, at(legs.trunk.row(k), *h));
+                put(&mut self.from_hubs, e, at(legs.trunk_back.row(k), *h));
             }
         }
-        for j in 0..tables.size {
-            let leg = at(tables.legs.deliver.row(j), k);
-            let onward = least_sum(&self.to_hubs, routes.deliver.row(j));
-            put(&mut self.onward, j, leg.min(onward));
-            put(&mut self.last, j, leg);
+        for (j, (onward, last)) in self.onward.iter_mut().zip(self.last.iter_mut()).enumerate() {
+            *last = at(legs.deliver.row(j), k);
+            *onward = least_sum(&self.to_hubs, routes.deliver.row(j)).min(*last);
         }
     }
 
     /// The routing cost with the place opened, in 10^-12.
     pub(crate) fn routes_cost(&mut self, openings: &Openings<'_, '_>, k: usize) -> i128 {
         self.set_ways(openings, k);
-        let lengths = openings.lengths;
-        let tables = &lengths.tables;
-        let mut sum = 0u64;
-        let mut lacked = 0u64;
+        let (lengths, set) = (openings.lengths, openings.set);
+        let mut tally = Tally { sum: 0, lacked: 0 };
         for i in 0..lengths.size {
-            let (flows, base) = (lengths.flows(i), row(&openings.set.base, i, lengths.size));
-            let leg = at(tables.legs.collect.row(i), k);
-            let turned = leg.min(least_sum(&self.from_hubs, openings.set.routes.collect.row(i)));
-            if !tables.has_limit() {
-                let row = weighed_by(flows, base, leg, &self.onward, turned, &self.last);
-                sum = sum.wrapping_add(row);
+            let (flows, base) = (lengths.flows(i), row(&set.base, i, lengths.size));
+            let leg = at(lengths.tables.legs.collect.row(i), k);
+            let turned = least_sum(&self.from_hubs, set.routes.collect.row(i)).min(leg);
+            if !lengths.tables.has_limit() {
+                let sum = self.weighed(flows, base, [leg, turned]);
+                tally.sum = tally.sum.wrapping_add(sum);
                 continue;
             }
-            for (j, flow) in flows.iter().enumerate() {
+            for (j, (flow, now)) in flows.iter().zip(base).enumerate() {
                 let forth = leg.wrapping_add(at(&self.onward, j));
-                let back = turned.wrapping_add(at(&self.last, j));
-                let now = at(base, j);
-                let length = if *flow > 0 && forth.min(back) < now {
-                    openings.length_with(i, j, k, forth.min(back), now)
+                let least = turned.wrapping_add(at(&self.last, j)).min(forth);
+                let length = if *flow > 0 && least < *now {
+                    openings.length_with([i, j], k, least).min(*now)
                 } else {
-                    now
+                    *now
                 };
-                sum = sum.wrapping_add((*flow as u64).wrapping_mul(length as u64));
-                lacked = lacked.wrapping_add(lacking(&[*flow], &[length]));
+                tally.add(*flow, length);
             }
         }
-        cost_of(lengths, sum, lacked)
+        tally.cost(lengths)
+    }
+
+    /// The sum of the flows of an origin times the least of three lengths: the present one, and two by way of the place,
+    /// to which two ways from the origin have these lengths.
+    fn weighed(&self, flows: &[u32], now: &[u32], ways: [u32; 2]) -> u64 {
+        let (onward, last) = (self.onward.as_slice(), self.last.as_slice());
+        let count = flows.len().min(now.len()).min(onward.len()).min(last.len());
+        let mut sum = 0u64;
+        for j in 0..count {
+            let forth = ways[0].wrapping_add(onward[j]);
+            let back = ways[1].wrapping_add(last[j]);
+            let length = now[j].min(forth).min(back);
+            sum = sum.wrapping_add((length as u64).wrapping_mul(flows[j] as u64));
+        }
+        sum
     }
 }
 
-/// The openings of a hub set without the closed hub: the movable places that are not hubs. `fixed` is the fixed cost of
+/// The openings of a hub set without its closed hub: the movable places that are not hubs. `fixed` is the fixed cost of
 /// the remaining hubs, in 10^-12. A block is some consecutive places.
 #[derive(Clone, Copy)]
 pub(crate) struct Openings<'a, 'b> {
     pub(crate) lengths: &'a Lengths,
     pub(crate) movable: &'a [bool],
     pub(crate) set: &'b OpenSet,
-    pub(crate) closed: Option<usize>,
     pub(crate) fixed: i128,
 }
 
@@ -167,19 +228,11 @@ impl<'a, 'b> Openings<'a, 'b> {
         opening: &mut Opening,
         best: Move,
     ) -> Move {
-        let lengths = self.lengths;
-        let blocks = short(lengths.places.div_ceil(PLACES_AT_ONCE));
+        let (alloc, count) = (workers.alloc, workers.many());
+        let blocks = short(self.lengths.places.div_ceil(PLACES_AT_ONCE));
         let mut best = best;
-        if workers.count > 1 && lengths.size >= LEAST_NODES {
-            let found = answers(
-                workers.rt,
-                workers.alloc,
-                self,
-                blocks,
-                workers.many(),
-                &OpenGate,
-            );
-            if let Ok(found) = found {
+        if count > 1 && self.lengths.size >= LEAST_NODES {
+            if let Ok(found) = answers(workers.rt, alloc, self, blocks, count, &OpenGate) {
                 for other in &found {
                     if other.cost < best.cost {
                         best = *other;
@@ -201,9 +254,8 @@ impl<'a, 'b> Openings<'a, 'b> {
         let mut best = best;
         for k in first..first.wrapping_add(PLACES_AT_ONCE).min(lengths.places) {
             if at(self.movable, k) && !at(&self.set.marks, k) {
-                let routes = opening.routes_cost(self, k);
-                let fixed = self.fixed.wrapping_add(lengths.fixed_cost(k));
-                let cost = routes.wrapping_add(fixed);
+                let fixed = self.fixed.wrapping_add(at(&lengths.fixed_costs, k));
+                let cost = opening.routes_cost(self, k).wrapping_add(fixed);
                 if cost < best.cost {
                     best = Move {
                         open: Some(k),
@@ -215,17 +267,17 @@ impl<'a, 'b> Openings<'a, 'b> {
         best
     }
 
-    /// The lesser of `now` and the length of the shortest allowed route of a commodity over the place, alone or with a
-    /// hub other than the closed one. No route over the place is shorter than `least`.
-    fn length_with(&self, i: usize, j: usize, k: usize, least: u32, now: u32) -> u32 {
-        let legs = Commodity::of(&self.lengths.tables, i, j);
+    /// The length of the shortest allowed route of a commodity over the place, alone or with a hub other than the closed
+    /// one. No route over the place is shorter than `least`.
+    fn length_with(&self, from: [usize; 2], k: usize, least: u32) -> u32 {
+        let legs = Commodity::of(&self.lengths.tables, from[0], from[1]);
         if legs.is_safe(least.wrapping_add(1)) {
             return least;
         }
         let (onward, before) = (legs.onward(k), legs.before(k));
-        let mut length = now.min(onward.length(k));
+        let mut length = legs.alone(k);
         for m in self.set.routes.hubs() {
-            if self.closed != Some(*m) {
+            if self.set.closed != Some(*m) {
                 length = length.min(onward.length(*m)).min(before.length(*m));
             }
         }

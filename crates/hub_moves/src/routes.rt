@@ -14,13 +14,6 @@ pub struct Route {
     pub length: u32,
 }
 
-impl Route {
-    /// Returns whether the place is a hub of the route.
-    pub(crate) fn uses(&self, k: usize) -> bool {
-        self.first == k || self.last == k
-    }
-}
-
 /// A route to fill vectors with.
 pub(crate) const NO_ROUTE: Route = Route {
     first: usize::MAX,
@@ -55,45 +48,32 @@ const NO_HOP: Hop = Hop {
     length: FAR,
 };
 
-/// The three shortest route ends with different last hubs.
+/// The three shortest route ends with different last hubs, in order.
 #[derive(Clone, Copy)]
-struct Hops {
-    first: Hop,
-    second: Hop,
-    third: Hop,
-}
-
-/// Route ends to fill vectors with.
-const NO_HOPS: Hops = Hops {
-    first: NO_HOP,
-    second: NO_HOP,
-    third: NO_HOP,
-};
+struct Hops([Hop; 3]);
 
 impl Hops {
-    /// The route ends with one more candidate.
-    fn with(self, hop: Hop) -> Hops {
-        let mut hops = self;
-        if hop.length < hops.third.length {
-            hops.third = hop;
+    /// Takes the route end in, if it is one of the shortest.
+    fn take(&mut self, hop: Hop) {
+        let [first, second, third] = self.0;
+        if hop.length < first.length {
+            self.0 = [hop, first, second];
+        } else if hop.length < second.length {
+            self.0 = [first, hop, second];
+        } else if hop.length < third.length {
+            self.0 = [first, second, hop];
         }
-        if hops.third.length < hops.second.length {
-            (hops.second, hops.third) = (hops.third, hops.second);
-        }
-        if hops.second.length < hops.first.length {
-            (hops.first, hops.second) = (hops.second, hops.first);
-        }
-        hops
     }
 
-    /// The length of the shortest route end that avoids both places.
-    fn without(&self, some: u32, other: u32) -> u32 {
-        if self.first.last != some && self.first.last != other {
-            self.first.length
-        } else if self.second.last != some && self.second.last != other {
-            self.second.length
+    /// The shortest route end that avoids both places.
+    fn without(&self, left_out: [usize; 2]) -> Hop {
+        let [first, second, third] = self.0;
+        if !left_out.contains(&(first.last as usize)) {
+            first
+        } else if !left_out.contains(&(second.last as usize)) {
+            second
         } else {
-            self.third.length
+            third
         }
     }
 }
@@ -114,7 +94,7 @@ impl SetRoutes {
             hubs: Vec::with_capacity(alloc, hubs)?,
             collect: Table::new(alloc, size, hubs)?,
             deliver: Table::new(alloc, size, hubs)?,
-            hops: vec![in alloc; NO_HOPS; size.wrapping_mul(hubs)]?,
+            hops: vec![in alloc; Hops([NO_HOP; 3]); size.wrapping_mul(hubs)]?,
         })
     }
 
@@ -152,14 +132,12 @@ impl SetRoutes {
     /// Computes the shortest route ends to the destination.
     fn take_hops(&mut self, tables: &Tables, j: usize) {
         let deliver = tables.legs.deliver.row(j);
-        for (hops, k) in row_mut(&mut self.hops, j, self.hubs.len())
-            .iter_mut()
-            .zip(&self.hubs)
-        {
+        let rows = row_mut(&mut self.hops, j, self.hubs.len());
+        for (hops, k) in rows.iter_mut().zip(&self.hubs) {
             let trunk = tables.legs.trunk.row(*k);
-            *hops = NO_HOPS;
+            *hops = Hops([NO_HOP; 3]);
             for m in &self.hubs {
-                *hops = hops.with(Hop {
+                hops.take(Hop {
                     last: short(*m),
                     length: at(trunk, *m).wrapping_add(at(deliver, *m)),
                 });
@@ -169,15 +147,21 @@ impl SetRoutes {
 
     /// The shortest route; ties by the order of the first hubs.
     pub fn shortest(&self, tables: &Tables, i: usize, j: usize) -> Route {
+        self.without(tables, [i, j], [usize::MAX; 2])
+    }
+
+    /// The shortest route that avoids both places.
+    #[inline(always)]
+    pub(crate) fn without(&self, tables: &Tables, from: [usize; 2], left_out: [usize; 2]) -> Route {
+        let [i, j] = from;
         let collect = self.collect.row(i);
         let hops = row(&self.hops, j, self.hubs.len());
-        let mut found = NO_ROUTE;
         let hubs = self.hubs.as_slice();
-        let count = hubs.len().min(collect.len()).min(hops.len());
-        for e in 0..count {
-            let hop = hops[e].first;
+        let mut found = NO_ROUTE;
+        for e in 0..hubs.len().min(collect.len()).min(hops.len()) {
+            let hop = hops[e].without(left_out);
             let length = collect[e].wrapping_add(hop.length);
-            if length < found.length {
+            if length < found.length && !left_out.contains(&hubs[e]) {
                 found = Route {
                     first: hubs[e],
                     last: hop.last as usize,
@@ -185,46 +169,25 @@ impl SetRoutes {
                 };
             }
         }
-        let legs = Commodity::of(tables, i, j);
-        if legs.is_safe(found.length.wrapping_add(1)) {
-            return found;
-        }
-        self.shortest_allowed(&legs, j, &[])
-    }
-
-    /// The length of the shortest route that avoids both places.
-    pub(crate) fn without(&self, tables: &Tables, i: usize, j: usize, left_out: [usize; 2]) -> u32 {
-        let collect = self.collect.row(i);
-        let hops = row(&self.hops, j, self.hubs.len());
-        let hubs = self.hubs.as_slice();
-        let [some, other] = left_out;
-        let (skipped, too) = (short(some), short(other));
-        let count = hubs.len().min(collect.len()).min(hops.len());
-        let mut least = FAR;
-        for e in 0..count {
-            if hubs[e] != some && hubs[e] != other {
-                least = least.min(collect[e].wrapping_add(hops[e].without(skipped, too)));
+        if tables.has_limit() {
+            let legs = Commodity::of(tables, i, j);
+            if !legs.is_safe(found.length.wrapping_add(1)) {
+                return self.shortest_allowed(&legs, j, left_out);
             }
         }
-        let legs = Commodity::of(tables, i, j);
-        if legs.is_safe(least.wrapping_add(1)) {
-            return least;
-        }
-        self.shortest_allowed(&legs, j, &left_out).length
+        found
     }
 
     /// The shortest route, and the lengths without its hubs.
     pub fn detours(&self, tables: &Tables, i: usize, j: usize) -> Detours {
         let route = self.shortest(tables, i, j);
         let (k, m) = (route.first, route.last);
-        let without_first = self.without(tables, i, j, [k, k]);
+        let length = |left_out| self.without(tables, [i, j], left_out).length;
+        let without_first = length([k, k]);
         let (without_last, neither) = if k == m {
             (without_first, without_first)
         } else {
-            (
-                self.without(tables, i, j, [m, m]),
-                self.without(tables, i, j, [k, m]),
-            )
+            (length([m, m]), length([k, m]))
         };
         Detours {
             route,
@@ -235,12 +198,12 @@ impl SetRoutes {
     }
 
     /// The shortest allowed route that avoids these places, or none.
-    fn shortest_allowed(&self, legs: &Commodity<'_>, j: usize, left_out: &[usize]) -> Route {
+    fn shortest_allowed(&self, legs: &Commodity<'_>, j: usize, left_out: [usize; 2]) -> Route {
         let hops = row(&self.hops, j, self.hubs.len());
         let mut found = NO_ROUTE;
         for (k, hops) in self.hubs.iter().zip(hops) {
             // No route by this first hub is shorter.
-            let least = at(legs.collect, *k).wrapping_add(hops.first.length);
+            let least = at(legs.ends.collect, *k).wrapping_add(hops.0[0].length);
             if least < found.length && !left_out.contains(k) {
                 let onward = legs.onward(*k);
                 for m in &self.hubs {
