@@ -28,8 +28,10 @@ pub struct Lengths {
     pub are_merged: bool,
     /// The number of commodities with flow.
     pub flowing: usize,
-    /// The fixed cost of each place, in the cost of one unit of flow along one unit of length.
+    /// What the fixed cost of each place is above `least_fixed`, in the cost of one unit of flow along one unit of length.
     pub fixed: Vec<i64>,
+    /// The least fixed cost if exactly p hubs are required, else 0; in 10^-12.
+    pub least_fixed: i128,
     /// The surcharge of a hub set for each commodity that it is infeasible for, in 10^-12: more than any feasible set
     /// costs.
     pub lack_cost: i128,
@@ -54,16 +56,22 @@ impl Lengths {
             merge(&mut flows, size);
         }
         let fixed_costs = fixed_costs(alloc, instance)?;
+        let wanted = wanted_hubs(instance);
+        let least_fixed = match wanted {
+            Some(_) => least(&fixed_costs),
+            None => 0,
+        };
         let mut lengths = Lengths {
             size,
             places,
-            wanted: wanted_hubs(instance),
+            wanted,
             units,
             are_merged,
             flowing: flowing(&flows),
             lack_cost: lack_cost(&flows, units, &fixed_costs),
             flows,
-            fixed: fixed_in(alloc, &fixed_costs, units)?,
+            fixed: fixed_in(alloc, &fixed_costs, least_fixed, units)?,
+            least_fixed,
             fixed_costs,
             tables: Tables::of(alloc, [size, places], legs, distances)?,
         };
@@ -110,19 +118,14 @@ impl Lengths {
         (self.units.length as i128).wrapping_mul(self.units.flow as i128)
     }
 
-    /// An upper bound on the length of a route.
+    /// An upper bound on the length of a route. Exact prices and values are lowered to it.
     pub fn longest(&self) -> u32 {
         self.units.longest
     }
 
-    /// An upper bound on prices. With `--max-length` it is the length of the longest route, to which exact prices are
-    /// lowered too; else only a commodity that no priced place is near has this price.
-    pub fn most_price(&self) -> u32 {
-        if self.tables.has_limit() {
-            self.longest()
-        } else {
-            self.longest().wrapping_add(1)
-        }
+    /// How much longer than here the legs of a route are together, at most; 0 where the unit divides all lengths.
+    pub fn slack(&self) -> u32 {
+        self.units.slack
     }
 
     /// The flows from the origin to each node.
@@ -307,14 +310,29 @@ fn fixed_costs(alloc: Global, instance: &Instance) -> Result<Vec<i128>, AllocErr
     Ok(fixed)
 }
 
-/// Fixed costs in the cost of one unit of flow and length, rounded down, and at most what sums of 64 bits hold.
-fn fixed_in(alloc: Global, costs: &[i128], units: Units) -> Result<Vec<i64>, AllocError> {
+/// The least of the costs, or 0.
+fn least(costs: &[i128]) -> i128 {
+    let mut least = at(costs, 0);
+    for cost in costs {
+        least = least.min(*cost);
+    }
+    least
+}
+
+/// What fixed costs are above the least, in the cost of one unit of flow and length, rounded down, and at most what sums
+/// of 64 bits hold.
+fn fixed_in(
+    alloc: Global,
+    costs: &[i128],
+    least: i128,
+    units: Units,
+) -> Result<Vec<i64>, AllocError> {
     let worth = (units.length as u128)
         .wrapping_mul(units.flow as u128)
         .max(1);
     let mut fixed = Vec::with_capacity(alloc, costs.len())?;
     for cost in costs {
-        let cost = (*cost).max(0) as u128 / worth;
+        let cost = cost.wrapping_sub(least).max(0) as u128 / worth;
         fixed.push(cost.min(1 << 58) as i64)?;
     }
     Ok(fixed)

@@ -16,23 +16,31 @@ const MOST_TOTAL: u128 = 1 << 60;
 /// The greatest flow, in the unit of flows.
 const MOST_FLOW: u128 = (1 << 32) - 1;
 
-/// The unit of lengths and the unit of flows, both in 10^-6, and the length of the longest route in that unit.
+/// The unit of lengths and the unit of flows, both in 10^-6, and the length of the longest route in that unit. `slack` is
+/// what a route may lose by rounding: one for each leg, or nothing.
 #[derive(Clone, Copy)]
 pub(crate) struct Units {
     pub(crate) length: u64,
     pub(crate) flow: u64,
     pub(crate) longest: u32,
+    pub(crate) slack: u32,
 }
 
 impl Units {
     /// The units that fit the instance.
     pub(crate) fn of(instance: &Instance) -> Units {
         let flows = Flows::of(instance);
-        let (length, longest) = length_unit(instance, flows.most_length());
+        let common = common_length(instance);
+        let (length, longest) = length_unit(instance, common, flows.most_length());
         Units {
             length,
             flow: flows.unit(longest),
             longest,
+            slack: if common % (length.max(1) as u128) == 0 {
+                0
+            } else {
+                3
+            },
         }
     }
 }
@@ -88,17 +96,22 @@ pub(crate) fn distance_unit(instance: &Instance) -> u64
     common_divisor(instance.distances()).max(least).max(1)
 }
 
-/// The unit of lengths and the longest route in it. It is no finer than one in which the longest route is `most`.
-fn length_unit(instance: &Instance, most: u128) -> (u64, u32) {
+/// A common divisor of all lengths, in 10^-6.
+fn common_length(instance: &Instance) -> u128 {
     let distances = common_divisor(instance.distances());
     let factors = divisor(
         divisor(instance.collect(), instance.trunk()),
         instance.deliver(),
     );
-    let exact = (distances.max(1) as u128).wrapping_mul(factors.max(1) as u128);
+    (distances.max(1) as u128).wrapping_mul(factors.max(1) as u128)
+}
+
+/// The unit of lengths, given their common divisor, and the longest route in it. It is no finer than one in which the
+/// longest route is `most`.
+fn length_unit(instance: &Instance, common: u128, most: u128) -> (u64, u32) {
     let all = instance.collect() as u128 + instance.trunk() as u128 + instance.deliver() as u128;
     let longest = all.wrapping_mul(greatest(instance.distances()) as u128);
-    let unit = finest(exact, longest.div_ceil(most.max(1)));
+    let unit = finest(common, longest.div_ceil(most.max(1)));
     let unit = unit.max(longest.div_ceil(MOST_LENGTH)).max(1);
     let longest = (longest / unit).min(MOST_LENGTH) as u32;
     (unit.min(u64::MAX as u128) as u64, longest)

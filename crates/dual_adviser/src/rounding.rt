@@ -42,8 +42,8 @@ impl Adviser {
             let cost = self.search.improve(&ground, &self.sets.rounded);
             self.sets.offer(&self.lengths, self.search.marks(), cost);
         }
-        let wanted = wanted.min(self.sets.cost);
-        if self.progress.bound >= wanted {
+        let wanted = wanted.min(self.sets.known);
+        if self.progress.bound >= wanted && self.lengths.slack() == 0 {
             return Ok(());
         }
         self.finish(workers, wanted)

@@ -60,7 +60,7 @@ impl Sums {
     /// the flows.
     pub(crate) fn objective(&self, terms: Terms<'_>) -> i128 {
         let extra = terms.extra_at(&self.loads);
-        let hubs = terms.hubs.unwrap_or(0) as i128;
+        let hubs = terms.hubs.unwrap_or(1) as i128;
         let beside = hubs.wrapping_mul(extra as i128);
         let mut sum = (self.total as i128)
             .wrapping_sub(beside)
@@ -72,9 +72,6 @@ impl Sums {
     }
 
     /// The bound of a branch with these sides by the Benders cut of these sums, in 10^-12.
-    ///
-    /// Without `--hubs` some hub must be open, which could raise the bound where no hub is inside. A cut has no
-    /// constant for that, so it is not used.
     pub fn bound(&self, lengths: &Lengths, sides: &[Side]) -> i128 {
         match lengths.wanted {
             None => self.free_bound(lengths, sides),
@@ -82,7 +79,8 @@ impl Sums {
         }
     }
 
-    /// The bound without `--hubs`.
+    /// The bound without `--hubs`. Some hub is open: where none is inside, the least reduced cost of a free place is paid
+    /// at least.
     fn free_bound(&self, lengths: &Lengths, sides: &[Side]) -> i128 {
         let mut bound = (self.total as i128).wrapping_mul(lengths.worth());
         for (k, side) in sides.iter().enumerate() {
@@ -94,7 +92,13 @@ impl Sums {
             };
             bound = bound.wrapping_add(added);
         }
-        bound
+        if sides.contains(&Side::In) {
+            return bound;
+        }
+        match self.next_rest(lengths, sides, None) {
+            Some(least) => bound.wrapping_add(least.cost.max(0)),
+            None => bound,
+        }
     }
 
     /// The bound for exactly `hubs` hubs: those inside, and of the free places those with the least reduced cost.
