@@ -65,7 +65,8 @@ impl Adviser {
         Ok(false)
     }
 
-    /// Takes the best duals for one hub where their bound reaches this cost, and returns whether it does.
+    /// Takes the best duals for one hub where their bound reaches this cost, and returns whether it does. Where lengths
+    /// are rounded, they are made tight at the start set then.
     fn begin_single<R: Threads + Sync>(
         &mut self,
         workers: &Workers<'_, R>,
@@ -83,6 +84,10 @@ impl Adviser {
         }
         let _ = fit_single(alloc, lengths, state, Manner::Tight)?;
         self.progress.note(bound, NO_GAIN);
+        if self.lengths.slack() > 0 {
+            copy(&self.sets.start, &mut self.sets.rounded);
+            self.finish(workers, cost)?;
+        }
         Ok(true)
     }
 

@@ -50,7 +50,7 @@ impl Adviser {
     }
 
     /// Makes the duals tight at the rounded set, if the bound then reaches the cutoff.
-    fn finish<R: Threads + Sync>(
+    pub(crate) fn finish<R: Threads + Sync>(
         &mut self,
         workers: &Workers<'_, R>,
         wanted: i128,

@@ -38,10 +38,13 @@ impl Sets {
         })
     }
 
-    /// Starts a node, where these hubs are the best known.
+    /// Starts a node, where these hubs are the best known. With `--max-length` a set found before may be infeasible.
     pub(crate) fn begin(&mut self, lengths: &Lengths, hubs: &[bool]) {
         fill(&mut self.best, false);
         self.cost = i128::MAX;
+        if lengths.tables.has_limit() {
+            self.known = i128::MAX;
+        }
         self.fixed = lengths.fixed_cost_of(hubs);
     }
 
