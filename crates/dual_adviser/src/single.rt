@@ -25,10 +25,15 @@ pub(crate) fn fit_single(
     let mut turned = vec![in alloc; 0; places]?;
     for i in 0..lengths.size {
         set_turned(lengths, i, &mut turned);
-        fill(&mut values, 0);
         for (j, flow) in lengths.flows(i).iter().enumerate() {
             let values = row_mut(&mut values, j, places);
-            let price = fit_one(lengths, [i, j], &turned, values);
+            let price = if *flow > 0 {
+                fit_one(lengths, [i, j], &turned, values)
+            } else {
+                // Exact prices take least time where all values are great.
+                fill(values, lengths.longest());
+                lengths.longest()
+            };
             put(&mut prices, j, price);
             sums.add_dual(*flow as i64, price, values);
         }
