@@ -1,8 +1,8 @@
 //! The words that the unproved program knows: COMMAND LAYOUT FILE [options], with the layouts `cab-matrix` and `ap` and the
-//! instance options --trunk, --fixed, --divide, --tail fixed, --hubs, --max-length and --candidates 1,2,..
+//! instance options --collect, --trunk, --deliver, --fixed, --divide, --tail fixed, --hubs, --max-length and --candidates 1,2,..
 //!
 //! COMMAND is `solve` (with --rule 2 by rounds, with --cuts core by core cuts), `optimize`, `resolve` with --from OLD, or `check` with
-//! --from CERTIFICATE, which says how it ends on standard error; --workers W and --format 1|2|3
+//! --from CERTIFICATE, which says how it ends on standard error; --workers W, --format 1|2|3, and --nodes and --gap of `optimize`
 //! are as they are in the product. The text goes to standard output, and seconds to standard error.
 //!
 //! `scan FILE` scans a certificate, and tells how many items it gave, its fault, and the seconds.
@@ -58,7 +58,9 @@ impl Words {
 
     fn terms(&self) -> Terms {
         let mut terms = Terms::plain();
+        terms.collect = self.decimal("--collect", 3);
         terms.trunk = self.decimal("--trunk", 3);
+        terms.deliver = self.decimal("--deliver", 3);
         terms.fixed = self.decimal("--fixed", 6);
         terms.divide = self.number("--divide").unwrap_or(1);
         terms.hubs = self.number("--hubs").map(HubNumber::Said);
@@ -107,7 +109,8 @@ impl Words {
             "optimize" => {
                 let workers = self.workers();
                 let adviser = Adviser::new(Global, instance, workers).unwrap();
-                let task = Task { instance, nodes: None, gap: 0, workers, first: &[] };
+                let (nodes, gap) = (self.number("--nodes"), self.decimal("--gap", 3).unwrap_or(0));
+                let task = Task { instance, nodes: nodes.map(u64::from), gap: gap as u32, workers, first: &[] };
                 optimize_within(&Host, Global, &task, adviser)
             }
             "resolve" => {

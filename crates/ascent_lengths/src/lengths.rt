@@ -27,8 +27,10 @@ pub struct Lengths {
     pub are_merged: bool,
     /// The number of commodities with flow.
     pub flowing: usize,
-    /// The fixed cost of each place, in the cost of one unit of flow along one unit of length.
+    /// What the fixed cost of each place is above `least_fixed`, in the cost of one unit of flow along one unit of length.
     pub fixed: Vec<i64>,
+    /// The least fixed cost if exactly p hubs are required, else 0; in 10^-12.
+    pub least_fixed: i128,
     /// The surcharge of a hub set for each commodity that it is infeasible for, in 10^-12: more than any feasible set
     /// costs.
     pub lack_cost: i128,
@@ -58,6 +60,7 @@ impl Lengths {
             are_merged: are_even && merge(&mut flows, size),
             flowing: flows.iter().filter(|flow| **flow > 0).count(),
             fixed: Vec::with_capacity(alloc, places)?,
+            least_fixed: 0,
             fixed_costs: Vec::with_capacity(alloc, places)?,
             lack_cost: 0,
             units,
@@ -68,8 +71,9 @@ impl Lengths {
         Ok(lengths)
     }
 
-    /// Sets the fixed costs, those per unit of flow and length (rounded down, and at most what sums of 64 bits hold), and
-    /// the surcharge: a little more than all commodities over the longest routes and all fixed costs together.
+    /// Sets the fixed costs, the least of them, what they are above it per unit of flow and length (rounded down, and at
+    /// most what sums of 64 bits hold), and the surcharge: a little more than all commodities over the longest routes and
+    /// all fixed costs together.
     fn set_costs(&mut self, instance: &Instance) -> Result<(), AllocError> {
         let worth = self.worth();
         let mut flow = 1i128;
@@ -80,12 +84,19 @@ impl Lengths {
             .wrapping_mul(self.longest() as i128)
             .wrapping_mul(worth);
         self.lack_cost = routes.wrapping_add(1);
+        let mut least = i128::MAX;
         for k in instance.candidates() {
             let cost = at(instance.fixed_costs(), *k as usize).min(1 << 120) as i128;
-            let fixed = (cost / worth.max(1)).clamp(0, 1 << 58) as i64;
-            self.fixed.push(fixed)?;
+            least = least.min(cost);
             self.fixed_costs.push(cost)?;
             self.lack_cost = self.lack_cost.wrapping_add(cost);
+        }
+        if self.wanted.is_some() {
+            self.least_fixed = least;
+        }
+        for cost in &self.fixed_costs {
+            let above = cost.wrapping_sub(self.least_fixed) / worth.max(1);
+            self.fixed.push(above.clamp(0, 1 << 58) as i64)?;
         }
         Ok(())
     }
@@ -129,19 +140,14 @@ impl Lengths {
         (self.units.length as i128).wrapping_mul(self.units.flow as i128)
     }
 
-    /// An upper bound on the length of a route.
+    /// An upper bound on the length of a route. Exact prices and values are lowered to it.
     pub fn longest(&self) -> u32 {
         self.units.longest
     }
 
-    /// An upper bound on prices. With `--max-length` it is the length of the longest route, to which exact prices are
-    /// lowered too; else only a commodity that no priced place is near has this price.
-    pub fn most_price(&self) -> u32 {
-        if self.tables.has_limit() {
-            self.longest()
-        } else {
-            self.longest().wrapping_add(1)
-        }
+    /// How much longer than here the legs of a route are together, at most; 0 where the unit divides all lengths.
+    pub fn slack(&self) -> u32 {
+        self.units.slack
     }
 
     /// The flows from the origin to each node.

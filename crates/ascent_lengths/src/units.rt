@@ -14,12 +14,14 @@ const MOST_TOTAL: u128 = 1 << 60;
 /// The greatest flow, in the unit of flows.
 const MOST_FLOW: u128 = (1 << 32) - 1;
 
-/// The unit of lengths and the unit of flows, both in 10^-6, and the length of the longest route in that unit.
+/// The unit of lengths and the unit of flows, both in 10^-6, and the length of the longest route in that unit. `slack` is
+/// what a route may lose by rounding: one for each leg, or nothing.
 #[derive(Clone, Copy)]
 pub(crate) struct Units {
     pub(crate) length: u64,
     pub(crate) flow: u64,
     pub(crate) longest: u32,
+    pub(crate) slack: u32,
 }
 
 impl Units {
@@ -46,6 +48,7 @@ impl Units {
             length: narrow(length),
             flow: narrow(common.wrapping_mul(least.max(1).div_ceil(common))),
             longest: longest as u32,
+            slack: if exact % length == 0 { 0 } else { 3 },
         }
     }
 }

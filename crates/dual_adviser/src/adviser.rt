@@ -180,14 +180,14 @@ impl Advice for Adviser {
         if self.progress.passes() == 0 && self.begin(&workers)? {
             return Ok(());
         }
-        let known = wanted.min(self.sets.cost);
+        let known = wanted.min(self.sets.known);
         self.prepare(&workers, known)?;
         self.pass(&workers, known)?;
         self.round(&workers, wanted)
     }
 
     fn goes_on(&self, wanted: i128) -> bool {
-        let wanted = wanted.min(self.sets.cost);
+        let wanted = wanted.min(self.sets.known);
         self.progress.goes_on(wanted, self.scale(wanted))
     }
 
@@ -202,6 +202,7 @@ impl Advice for Adviser {
         ensures { KeepsShape self.old self.new }
     {
         let workers = self.workers(rt, alloc);
+        let wanted = wanted.min(self.sets.known);
         if may_branch && self.progress.bound < wanted {
             self.choose_branch(&workers, wanted)?;
             return Ok(false);

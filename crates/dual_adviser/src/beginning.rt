@@ -59,13 +59,14 @@ impl Adviser {
         let _ = self.sets.tries.note(&self.sets.start);
         let cost = self.search_from_start(workers);
         self.begin_root(workers, cost);
-        if self.lengths.wanted == Some(1) && !self.lengths.tables.has_limit() {
+        if marked(&self.sets.start) == 1 && !self.lengths.tables.has_limit() {
             return self.begin_single(workers, cost);
         }
         Ok(false)
     }
 
-    /// For `--hubs 1` starts from the best duals, and returns whether the bound reaches this cost.
+    /// Takes the best duals for one hub where their bound reaches this cost, and returns whether it does. Where lengths
+    /// are rounded, they are made tight at the start set then.
     fn begin_single<R: Threads + Sync>(
         &mut self,
         workers: &Workers<'_, R>,
@@ -73,14 +74,21 @@ impl Adviser {
     ) -> Result<bool, AllocError>
         ensures { KeepsShape self.old self.new }
     {
-        fit_single(workers.alloc, &self.lengths, &mut self.state)?;
-        let bound = self.bound();
-        if bound >= cost {
-            self.progress.note(bound, NO_GAIN);
-            return Ok(true);
+        let (alloc, lengths, state) = (workers.alloc, &self.lengths, &mut self.state);
+        let bound = fit_single(alloc, lengths, state, Manner::Bound)?.bound(
+            lengths,
+            &self.node.sides,
+        );
+        if bound < cost {
+            return Ok(false);
         }
-        self.begin_with(&[]);
-        Ok(false)
+        let _ = fit_single(alloc, lengths, state, Manner::Tight)?;
+        self.progress.note(bound, NO_GAIN);
+        if self.lengths.slack() > 0 {
+            copy(&self.sets.start, &mut self.sets.rounded);
+            self.finish(workers, cost)?;
+        }
+        Ok(true)
     }
 
     /// Improves the start set, and returns its cost.
@@ -110,7 +118,8 @@ impl Adviser {
                 lengths: &self.lengths,
                 movable: &self.sets.movable,
             };
-            let worth = self.search.hub_worth(&ground, cost) / unit;
+            let worth = self.search.hub_worth(&ground, cost);
+            let worth = worth.saturating_add(self.lengths.least_fixed) / unit;
             self.node.hub_worth = worth.clamp(0 - MOST_HUB_WORTH, MOST_HUB_WORTH) as i64;
             for (k, price) in self.node.prices.iter_mut().enumerate() {
                 *price = if at(&self.sets.start, k) {
@@ -151,7 +160,7 @@ impl Adviser {
             self.node.set_ramps(&self.lengths, Some(&self.sets.start));
         }
         if !self.progress.is_root || passes == EARLY_PASSES {
-            fill(&mut self.node.caps, self.lengths.most_price());
+            fill(&mut self.node.caps, self.lengths.longest());
         }
         Ok(())
     }

@@ -13,8 +13,10 @@ use std::thread::Threads;
 
 /// The number of candidates that are tried.
 const MOST_TRIED: usize = 5;
-/// Trials take this part of the commodities with flow.
+/// Trials take this part of the commodities with flow, and at least `LEAST_LISTED`.
 const LISTED_PART: usize = 10;
+
+const LEAST_LISTED: usize = 100;
 
 /// A commodity with its flow, and a number that breaks ties without regard to the order.
 #[derive(Clone, Copy, PartialEq, Eq, PartialOrd, Ord)]
@@ -24,7 +26,7 @@ struct Weighty {
     commodity: usize,
 }
 
-/// The tenth of the commodities with the greatest flows.
+/// The commodities with the greatest flows, for trials.
 pub(crate) fn listed(alloc: Global, lengths: &Lengths) -> Result<Vec<usize>, AllocError> {
     let mut all = Vec::with_capacity(alloc, lengths.flowing)?;
     for c in 0..lengths.commodities() {
@@ -38,7 +40,7 @@ pub(crate) fn listed(alloc: Global, lengths: &Lengths) -> Result<Vec<usize>, All
         }
     }
     all.sort_unstable();
-    let count = all.len().div_ceil(LISTED_PART);
+    let count = all.len().div_ceil(LISTED_PART).max(LEAST_LISTED);
     let mut listed = Vec::with_capacity(alloc, count)?;
     for some in all.iter().rev().take(count) {
         listed.push(some.commodity)?;

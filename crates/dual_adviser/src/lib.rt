@@ -15,7 +15,7 @@
 //! cost. Tight duals have a closed form, and so have those that complete what passes saw of a core of the candidates.
 //!
 //! In the order of reading: `tight` (the tight dual of a commodity), `origins` (those of an origin, as a job of the
-//! worker pool), `fitting` (those of all origins), `single` (the best duals for `--hubs 1`). Then `sets` (hub sets),
+//! worker pool), `fitting` (those of all origins), `single` (the best duals for one hub). Then `sets` (hub sets),
 //! `node` (penalties, ramps and the core at a node), `progress` (its bounds, and when it is left), `memory` (state to
 //! return to). Last `adviser` (the trait), `beginning`, `rounding` and `branching` (parts of a node).
 #![tactic(auto)]

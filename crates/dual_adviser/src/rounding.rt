@@ -42,15 +42,15 @@ impl Adviser {
             let cost = self.search.improve(&ground, &self.sets.rounded);
             self.sets.offer(&self.lengths, self.search.marks(), cost);
         }
-        let wanted = wanted.min(self.sets.cost);
-        if self.progress.bound >= wanted {
+        let wanted = wanted.min(self.sets.known);
+        if self.progress.bound >= wanted && self.lengths.slack() == 0 {
             return Ok(());
         }
         self.finish(workers, wanted)
     }
 
     /// Makes the duals tight at the rounded set, if the bound then reaches the cutoff.
-    fn finish<R: Threads + Sync>(
+    pub(crate) fn finish<R: Threads + Sync>(
         &mut self,
         workers: &Workers<'_, R>,
         wanted: i128,

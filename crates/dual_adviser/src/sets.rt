@@ -7,11 +7,13 @@ use std::alloc::{AllocError, Global};
 const MOST_TRIES: usize = 4096;
 
 /// Hub sets as marks: the best one found at a node, the start set, the last rounded set, and the places that may move.
-/// `fixed` is the fixed cost of the best known set. Costs are in 10^-12.
+/// `known` is the cost of the best set found at any node, `fixed` the fixed cost of the best known set. Costs are in
+/// 10^-12, in the lengths of the heuristic.
 #[derive(Drop)]
 pub(crate) struct Sets {
     pub(crate) best: Vec<bool>,
     pub(crate) cost: i128,
+    pub(crate) known: i128,
     pub(crate) fixed: i128,
     pub(crate) start: Vec<bool>,
     pub(crate) rounded: Vec<bool>,
@@ -25,6 +27,7 @@ impl Sets {
         Ok(Sets {
             best: vec![in alloc; false; places]?,
             cost: i128::MAX,
+            known: i128::MAX,
             fixed: 0,
             start: vec![in alloc; false; places]?,
             rounded: vec![in alloc; false; places]?,
@@ -35,10 +38,13 @@ impl Sets {
         })
     }
 
-    /// Starts a node, where these hubs are the best known.
+    /// Starts a node, where these hubs are the best known. With `--max-length` a set found before may be infeasible.
     pub(crate) fn begin(&mut self, lengths: &Lengths, hubs: &[bool]) {
         fill(&mut self.best, false);
         self.cost = i128::MAX;
+        if lengths.tables.has_limit() {
+            self.known = i128::MAX;
+        }
         self.fixed = lengths.fixed_cost_of(hubs);
     }
 
@@ -50,6 +56,7 @@ impl Sets {
         };
         if fits && cost < self.cost {
             self.cost = cost;
+            self.known = self.known.min(cost);
             self.fixed = lengths.fixed_cost_of(marks);
             copy(marks, &mut self.best);
         }

@@ -1,19 +1,21 @@
-//! The best duals for `--hubs 1`, in closed form.
+//! The best duals for one hub, in closed form.
 
 ghost use Rattle.dual_ascent.specs.Shapes.{KeepsShape};
 
+use crate::fitting::Manner;
 use ascent_lengths::{FAR, Lengths, at, fill, put, row, row_mut};
 use dual_ascent::{State, Sums};
 use std::alloc::{AllocError, Global};
 
-/// Sets the duals at which the route over each single place is tight: the value of a place is the price less the length
-/// of that route, and the price is the least at which every pair of hubs allows this. Then the bound for one hub is the
-/// cost of the best hub.
+/// Computes the duals at which the route over each single place is tight, in this manner, and returns their sums: the
+/// value of a place is the price less the length of that route, and the price is the least at which every pair of hubs
+/// allows this. Then the bound for one hub is the cost of the best hub.
 pub(crate) fn fit_single(
     alloc: Global,
     lengths: &Lengths,
     state: &mut State,
-) -> Result<(), AllocError>
+    manner: Manner,
+) -> Result<Sums, AllocError>
     ensures { KeepsShape state.old state.new }
 {
     let places = lengths.places;
@@ -23,17 +25,26 @@ pub(crate) fn fit_single(
     let mut turned = vec![in alloc; 0; places]?;
     for i in 0..lengths.size {
         set_turned(lengths, i, &mut turned);
-        fill(&mut values, 0);
         for (j, flow) in lengths.flows(i).iter().enumerate() {
             let values = row_mut(&mut values, j, places);
-            let price = fit_one(lengths, [i, j], &turned, values);
+            let price = if *flow > 0 {
+                fit_one(lengths, [i, j], &turned, values)
+            } else {
+                // Exact prices take least time where all values are great.
+                fill(values, lengths.longest());
+                lengths.longest()
+            };
             put(&mut prices, j, price);
             sums.add_dual(*flow as i64, price, values);
         }
-        state.put_origin(i, &prices, &values);
+        if manner.keeps() {
+            state.put_origin(i, &prices, &values);
+        }
     }
-    state.take_sums(&sums);
-    Ok(())
+    if manner.keeps() {
+        state.take_sums(&sums);
+    }
+    Ok(sums)
 }
 
 /// Sets, for each place, the greatest of its collection leg and, over the other places, their collection leg less the

@@ -24,10 +24,11 @@ fn tight_route(
     let detours = routes.detours(&lengths.tables, i, j);
     let route = detours.route;
     let (k, m) = (route.first, route.last);
-    let most = lengths.most_price();
-    let without_first = detours.without_first.min(most).saturating_sub(route.length);
-    let without_last = detours.without_last.min(most).saturating_sub(route.length);
-    let neither = detours.neither.min(most).saturating_sub(route.length);
+    let most = lengths.longest();
+    let least = route.length.wrapping_add(lengths.slack());
+    let without_first = detours.without_first.min(most).saturating_sub(least);
+    let without_last = detours.without_last.min(most).saturating_sub(least);
+    let neither = detours.neither.min(most).saturating_sub(least);
     let first = at(values, k).min(without_first).min(neither);
     let last = if k == m {
         0
@@ -65,7 +66,7 @@ pub(crate) fn is_tight(
 }
 
 /// Sets the values that are tight at the set and closest to these, and returns the price. Places outside the set keep
-/// their values.
+/// their values. Where lengths are rounded, those that get values later get a little more.
 pub(crate) fn begin_tight(
     routes: &SetRoutes,
     lengths: &Lengths,
@@ -76,7 +77,7 @@ pub(crate) fn begin_tight(
     let [i, j] = from;
     let legs = Commodity::of(&lengths.tables, i, j);
     let tight = tight_route(routes, lengths, from, values);
-    found.begin_from(&legs, tight.price, values);
+    found.begin_from(&legs, tight.price.wrapping_add(lengths.slack()), values);
     for k in routes.hubs() {
         found.settle(&legs, *k, 0);
     }

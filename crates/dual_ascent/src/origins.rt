@@ -1,7 +1,7 @@
 //! One origin of a pass: its commodities take their steps one after another.
 
 use crate::passes::Pass;
-use crate::ramps::{NO_TURN, Ramp, Turn, balanced, set_order, set_prices};
+use crate::ramps::{NO_TURN, Ramp, Turn, balanced, is_enough, set_order, set_prices};
 use crate::steps::{Steps, mixed};
 use crate::waits::{Gain, NO_GAIN, Quote};
 use ascent_lengths::{Commodity, at, copy, gather, row, row_mut};
@@ -20,18 +20,20 @@ pub struct Terms<'a> {
     pub little: Option<i128>,
     /// The number p of hubs, if exactly p are required.
     pub hubs: Option<usize>,
-    /// The last cost of each hub beside its fixed cost, for exactly p hubs.
+    /// The last cost of each hub beside its fixed cost.
     pub extra: i64,
     /// Penalties up to this one count as 0.
     pub coarse: i64,
 }
 
 impl Terms<'_> {
-    /// The cost of each hub beside its fixed cost at these loads, at which the penalties add up to p hubs.
+    /// The cost of each hub beside its fixed cost at these loads, at which the penalties add up to p hubs. Where any
+    /// number will do, they add up to one hub at least, and the cost is not above 0.
     pub fn extra_at(&self, loads: &[i64]) -> i64 {
         match self.hubs {
-            None => 0,
             Some(hubs) => balanced(self.ramps, loads, hubs, self.extra),
+            None if is_enough(self.ramps, loads, FULL_PRICE, 0) => 0,
+            None => balanced(self.ramps, loads, 1, self.extra),
         }
     }
 }

@@ -196,7 +196,7 @@ impl State {
             if flow > 0 {
                 let values = row(&self.values, c, places);
                 let legs = Commodity::of(&lengths.tables, c / size, c % size);
-                quote.price = found.greatest_price(&legs, values, lengths.most_price());
+                quote.price = found.greatest_price(&legs, values, lengths.longest());
                 sums.add_dual(flow, quote.price, values);
             }
         }

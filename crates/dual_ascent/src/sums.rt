@@ -63,7 +63,7 @@ impl Sums {
     /// the flows.
     pub(crate) fn objective(&self, terms: Terms<'_>) -> i128 {
         let extra = terms.extra_at(&self.loads);
-        let hubs = terms.hubs.unwrap_or(0) as i128;
+        let hubs = terms.hubs.unwrap_or(1) as i128;
         let beside = hubs.wrapping_mul(extra as i128);
         let mut sum = (self.total as i128)
             .wrapping_sub(beside)
@@ -75,13 +75,11 @@ impl Sums {
     }
 
     /// The bound of a branch with these sides by the Benders cut of these sums, in 10^-12. For exactly p hubs it has
-    /// those inside, and of the free places those with the least reduced cost.
-    ///
-    /// Without `--hubs` some hub must be open, which could raise the bound where no hub is inside. A cut has no
-    /// constant for that, so it is not used.
+    /// those inside, and of the free places those with the least reduced cost. Where any number will do, some hub is open:
+    /// if none is inside, the least reduced cost of a free place is paid at least.
     pub fn bound(&self, lengths: &Lengths, sides: &[Side]) -> i128 {
         let mut bound = (self.total as i128).wrapping_mul(lengths.worth());
-        let mut left = lengths.wanted.unwrap_or(0);
+        let mut left = lengths.wanted.unwrap_or(1);
         for (k, side) in sides.iter().enumerate() {
             let rest = self.rest(lengths, k).0;
             if *side == Side::In {
@@ -91,12 +89,13 @@ impl Sums {
                 bound = bound.wrapping_add(rest.min(0));
             }
         }
+        let least = lengths.wanted.map_or(0, |_| i128::MIN);
         let mut last = (i128::MIN, 0);
         for _ in 0..left {
             let Some(next) = self.next_rest(lengths, sides, last) else {
                 break;
             };
-            bound = bound.wrapping_add(next.0);
+            bound = bound.wrapping_add(next.0.max(least));
             last = next;
         }
         bound

@@ -136,7 +136,7 @@ impl LocalSearch {
             for (j, cap) in row_mut(caps, i, lengths.size).iter_mut().enumerate() {
                 let detours = self.set.routes.detours(&lengths.tables, i, j);
                 let most = detours.without_first.max(detours.without_last);
-                *cap = most.min(lengths.most_price());
+                *cap = most.min(lengths.longest());
             }
         }
     }
