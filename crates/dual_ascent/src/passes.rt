@@ -136,12 +136,17 @@ impl State {
     {
         schedule(lengths, &self.quotes, &mut bench.origins);
         bench.begin(terms.ramps, &self.sums);
-        let mut terms = terms;
-        terms.ramps = &bench.ramps;
         let pass = Pass {
             lengths,
             core: &bench.core,
-            terms,
+            terms: Terms {
+                ramps: &bench.ramps,
+                caps: terms.caps,
+                little: terms.little,
+                hubs: terms.hubs,
+                extra: terms.extra,
+                coarse: terms.coarse,
+            },
             origins: &bench.origins,
             window: Window::of(lengths.size),
         };
