@@ -95,8 +95,9 @@ impl Lengths {
             self.least_fixed = least;
         }
         for cost in &self.fixed_costs {
-            let above = cost.wrapping_sub(self.least_fixed) / worth.max(1);
-            self.fixed.push(above.clamp(0, 1 << 58) as i64)?;
+            let above = cost.wrapping_sub(self.least_fixed);
+            let fixed = above.checked_div(worth).unwrap_or(0);
+            self.fixed.push(fixed.clamp(0, 1 << 58) as i64)?;
         }
         Ok(())
     }
