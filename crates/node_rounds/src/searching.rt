@@ -22,8 +22,8 @@ ghost use Rattle.node_rounds.specs.Findings.{found_by_rounds};
 ghost use Rattle.node_rounds.specs.Searchers.{first_state, IsWholeSearch, IsTurnerAt};
 
 use crate::closing::close_up;
-use crate::fronts::{RoundFront, add_line};
-use crate::left::{Left, LeftMark, put_back, settle};
+use crate::fronts::{RoundState, add_line};
+use crate::left::{Left, TreeSlot, put_back, settle};
 use crate::outcomes::{Outcome, Pending};
 use crate::searchers::side_by_side;
 use crate::taking::take;
@@ -172,7 +172,7 @@ fn all_rounds<R: Threads + Sync, G: Gate, S: Separator>(
     ensures going { IfOk result (IsGoing task.now) }
 {
     let mut left = at_root(alloc, task.instance)?;
-    let mut front = RoundFront {
+    let mut front = RoundState {
         progress,
         places: Vec::new(alloc),
     };
@@ -181,7 +181,7 @@ fn all_rounds<R: Threads + Sync, G: Gate, S: Separator>(
             workers, turner, alloc, task, separator, &mut left, &mut front,
         )?;
     }
-    let RoundFront {
+    let RoundState {
         mut progress,
         places: _,
     } = front;
@@ -202,7 +202,7 @@ fn at_root(alloc: Global, instance: &Instance) -> Result<Left, AllocError>
         waits: 0,
     };
     let mut marks = Vec::new(alloc);
-    marks.push(LeftMark::Node)?;
+    marks.push(TreeSlot::Node)?;
     let mut nodes = Vec::new(alloc);
     nodes.push(node)?;
     Ok(Left { marks, nodes })
@@ -216,7 +216,7 @@ fn one_round<R: Threads + Sync, G: Gate, S: Separator>(
     task: &Task,
     separator: &mut S,
     left: &mut Left,
-    front: &mut RoundFront,
+    front: &mut RoundState,
 ) -> Result<(), AllocError>
     requires plain { task.now.instance.now.wanted ≡ None }
     requires minimal { S.kind ≡ minimal }
@@ -243,7 +243,7 @@ fn take_round<S: Separator>(
     task: &Task,
     separator: &mut S,
     left: &mut Left,
-    front: &mut RoundFront,
+    front: &mut RoundState,
     outcomes: Vec<Outcome>,
 ) -> Result<(), AllocError>
     requires plain { task.now.instance.now.wanted ≡ None }
@@ -270,7 +270,7 @@ fn take_all<S: Separator>(
     task: &Task,
     separator: &mut S,
     left: &mut Left,
-    front: &mut RoundFront,
+    front: &mut RoundState,
     mut outcomes: Vec<Outcome>,
 ) -> Result<(), AllocError>
     requires plain { task.now.instance.now.wanted ≡ None }
@@ -290,8 +290,8 @@ fn take_all<S: Separator>(
 {
     while !outcomes.is_empty() && front.progress.stop.is_none() {
         match left.marks.pop() {
-            Some(LeftMark::Line(line)) => add_line(task, front, line)?,
-            Some(LeftMark::Node) => match (left.nodes.pop(), outcomes.pop()) {
+            Some(TreeSlot::Line(line)) => add_line(task, front, line)?,
+            Some(TreeSlot::Node) => match (left.nodes.pop(), outcomes.pop()) {
                 (Some(node), Some(outcome)) => {
                     take(alloc, task, separator, front, node, outcome)?
                 }
