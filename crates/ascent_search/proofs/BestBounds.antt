@@ -7,7 +7,7 @@ use Rattle.search_spec.specs.States.{lesser}
 use Rattle.search_spec.proofs.Keeping.{kept_more, leaf_bound-kept}
 use Rattle.search_spec.specs.Walks.{IsSoundLine, filled, Walks}
 use Rattle.cut_pool.specs.Findings.{lines_of}
-use Rattle.ascent_search.specs.declared.progress.Progress.{Progress}
+use Rattle.ascent_search.specs.declared.progress.TreeProgress.{TreeProgress}
 use Rattle.ascent_search.specs.Progressing.{cuts_of, WalksTo, Proves, Says, KeepsBest}
 
 -- ---- walks over the same lines
@@ -89,12 +89,12 @@ pub says_both : (target r : ℕ) (left : Option ℕ) → target ≤ r → Says t
 says_both target r None less says = omega (arith, less)
 says_both target r (Some m) less says = omega (arith, less, says)
 
-pub keeps_twice : (p : Problem) (first : List Branching) (before middle after : Progress) → KeepsBest p first before middle
+pub keeps_twice : (p : Problem) (first : List Branching) (before middle after : TreeProgress) → KeepsBest p first before middle
     → KeepsBest p first middle after → KeepsBest p first before after
 keeps_twice p first before middle after one two = λ target proves.
     (let late = two target proves in let early = one target late.0 in (early.0, λ says. late.1 (early.1 says)))
 
-pub keeps_lines : (p : Problem) (first : List Branching) (before after : Progress) → cuts_of p after ≡ cuts_of p before
+pub keeps_lines : (p : Problem) (first : List Branching) (before after : TreeProgress) → cuts_of p after ≡ cuts_of p before
     → lines_of after.lines.items ≡ lines_of before.lines.items → after.left ≡ before.left → KeepsBest p first before after
 keeps_lines p first before after cuts lines left = λ target proves. (
   (
@@ -104,7 +104,7 @@ keeps_lines p first before after cuts lines left = λ target proves. (
   says_same target before.left after.left left,
 )
 
-pub keeps_line : (p : Problem) (first : List Branching) (before after : Progress) (l : TreeLine) → cuts_of p after ≡ cuts_of p before
+pub keeps_line : (p : Problem) (first : List Branching) (before after : TreeProgress) (l : TreeLine) → cuts_of p after ≡ cuts_of p before
     → lines_of after.lines.items ≡ lines_of before.lines.items ++ l ∷ [] → after.left ≡ before.left → KeepsBest p first before after
 keeps_line p first before after l cuts lines left = λ target proves. (
   front p (cuts_of p before) target first (lines_of before.lines.items) l proves.0
@@ -113,7 +113,7 @@ keeps_line p first before after l cuts lines left = λ target proves. (
   says_same target before.left after.left left,
 )
 
-pub keeps_cut : (p : Problem) (first last : List Branching) (before after : Progress) (cut : Cut) → WalksTo p before first last
+pub keeps_cut : (p : Problem) (first last : List Branching) (before after : TreeProgress) (cut : Cut) → WalksTo p before first last
     → cuts_of p after ≡ cuts_of p before ++ cut ∷ [] → lines_of after.lines.items ≡ lines_of before.lines.items
     → after.left ≡ before.left → KeepsBest p first before after
 keeps_cut p first last before after cut walks cuts lines left = λ target proves. (

@@ -33,14 +33,14 @@ use Rattle.cut_pool.specs.Findings.{lines_of, proof_of, IsUnlimited, AreRemade, 
 use Rattle.cut_pool.proofs.KeptCutLaws.{kept_is_cut, kept_in_range}
 use Rattle.cut_pool.proofs.Versions.{has_text}
 use Rattle.ascent_search.specs.declared.task.Task.{Task}
-use Rattle.ascent_search.specs.declared.progress.Progress.{Progress}
+use Rattle.ascent_search.specs.declared.progress.TreeProgress.{TreeProgress}
 use Rattle.ascent_search.specs.Gaps.{most_gap, IsWithinGap}
 use Rattle.ascent_search.specs.Progressing.{cuts_of, target_of, Says, AreFirstHubs, IsFirst, IsWantedAs, IsGoing, IsOver, IsBestBound}
 use Rattle.ascent_search.proofs.Gaps.{all_within}
 use Rattle.ascent_search.proofs.BestBounds.{tree_walks, walk_by}
 
 -- the finding is what the search has at its end, with the least routes of the incumbent
-pub record IsFoundOf (t : Task) (s : Progress) (found : Found) : Type 0 where
+pub record IsFoundOf (t : Task) (s : TreeProgress) (found : Found) : Type 0 where
   pub cost : found.cost ≡ s.cost
   pub bound : found.bound ≡ target_of s
   pub hubs : found.plan.hubs ≡ s.hubs
@@ -54,7 +54,7 @@ record HasTree (p : Problem) (found : Found) : Type 0 where
   lines : preorder tree ≡ lines_of found.tree.items
   sound : IsSound p (kept_cuts p found.cuts.cuts) found.bound (root p) tree
 
-found_tree : (t : Task) (s : Progress) (found : Found) → IsOver t s → IsFoundOf t s found → HasTree t.instance.now found
+found_tree : (t : Task) (s : TreeProgress) (found : Found) → IsOver t s → IsFoundOf t s found → HasTree t.instance.now found
 found_tree t s found over is =
     let p = t.instance.now in
     let walk : Walks p (kept_cuts p found.cuts.cuts) found.bound (root p ∷ []) (lines_of found.tree.items) [] =
@@ -66,7 +66,7 @@ both_say : (target cost : ℕ) (left : Option ℕ) → target ≤ cost → Says 
 both_say target cost None less says = less
 both_say target cost (Some low) less says = omega (arith, less, says)
 
-module _ (t : Task) (s : Progress) (found : Found) (over : IsOver t s) (is : IsFoundOf t s found) where
+module _ (t : Task) (s : TreeProgress) (found : Found) (over : IsOver t s) (is : IsFoundOf t s found) where
   found_set : IsHubSet t.instance.now found.plan.hubs
   found_set = subst (IsHubSet t.instance.now) (sym is.hubs) over.going.hubs
 
@@ -218,7 +218,7 @@ within_one : (n : Option ℕ) → AreWithin n 1
 within_one None = tt
 within_one (Some m) = λ some. some
 
-pub begun_going : (t : Task) (s : Progress) → IsProblem t.instance.now → t.gap ≤ most_gap
+pub begun_going : (t : Task) (s : TreeProgress) → IsProblem t.instance.now → t.gap ≤ most_gap
     → s.cuts ≡ record { cuts = []; totals = []; loads = [] } → s.lines.items ≡ [] → IsFirst t s.hubs s.cost
     → s.made ≡ 1 → s.stopped ≡ false → s.left ≡ None → IsGoing t s
 begun_going t s ok gap cuts lines first made stopped left =
@@ -288,7 +288,7 @@ given_first t hubs given cost less first is_cost same set is_less low =
 
 -- ---- the end
 
-pub found_of : (t : Task) (s : Progress) (found : Found) (routes : List (ℕ × ℕ)) → found.cost ≡ s.cost → found.bound ≡ target_of s
+pub found_of : (t : Task) (s : TreeProgress) (found : Found) (routes : List (ℕ × ℕ)) → found.cost ≡ s.cost → found.bound ≡ target_of s
     → found.plan ≡ record { hubs = s.hubs; routes = routes } → AllZip (IsLeastRoute t.instance.now s.hubs) (commodities t.instance.now.size) routes
     → found.cuts ≡ s.cuts → found.tree.items ≡ s.lines.items → IsFoundOf t s found
 found_of t s found routes cost bound plan least cuts lines =

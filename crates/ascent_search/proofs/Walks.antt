@@ -2,7 +2,7 @@
 use Rattle.std.proofs.Common.{◌≡◌, ◌≤◌, sym, ap, subst, ◌∙◌}
 use Rattle.hub_spec.specs.Trees.{Branching}
 use Rattle.ascent_search.specs.declared.task.Task.{Task}
-use Rattle.ascent_search.specs.declared.progress.Progress.{Progress}
+use Rattle.ascent_search.specs.declared.progress.TreeProgress.{TreeProgress}
 use Rattle.ascent_search.specs.declared.walk.Walk.{Walk}
 use Rattle.ascent_search.specs.Progressing.{IsGoing, IsAt, IsDone}
 use Rattle.ascent_search.specs.Walking.{IsWalking, IsSameWalk}
@@ -31,7 +31,7 @@ walk_at_twice before middle after same at next more = (
 
 -- ---- a walk that begins from what the search has
 
-pub begun_walking : (t : Task) (s : Progress) (w : Walk) → w.task.now ≡ t → w.bench.problem ≡ t.instance.now → w.progress ≡ s → IsGoing t s
+pub begun_walking : (t : Task) (s : TreeProgress) (w : Walk) → w.task.now ≡ t → w.bench.problem ≡ t.instance.now → w.progress ≡ s → IsGoing t s
     → Crewed t → IsWalking w
 begun_walking t s w task bench progress going workers = record {
   going = subst (λ (x : Task). IsGoing x w.progress) (sym task) (subst (IsGoing t) (sym progress) going);
@@ -39,7 +39,7 @@ begun_walking t s w task bench progress going workers = record {
   workers = subst Crewed (sym task) workers;
 }
 
-pub begun_done : (t : Task) (b : Branching) (s after : Progress) (w : Walk) → w.task.now ≡ t → w.progress ≡ s → IsDone w.task.now b w.progress after
+pub begun_done : (t : Task) (b : Branching) (s after : TreeProgress) (w : Walk) → w.task.now ≡ t → w.progress ≡ s → IsDone w.task.now b w.progress after
     → IsDone t b s after
 begun_done t b s after w task progress done =
-    subst (λ (x : Task). IsDone x b s after) task (subst (λ (x : Progress). IsDone w.task.now b x after) progress done)
+    subst (λ (x : Task). IsDone x b s after) task (subst (λ (x : TreeProgress). IsDone w.task.now b x after) progress done)

@@ -16,22 +16,22 @@ use Rattle.cut_pool.specs.Findings.{lines_of, IsUnlimited}
 use Rattle.cut_pool.specs.declared.found.Found.{Found}
 use Rattle.ascent_search.specs.declared.task.Task.{Task}
 use Rattle.ascent_search.specs.Gaps.{most_gap, IsWithinGap}
-use Rattle.ascent_search.specs.declared.progress.Progress.{Progress}
+use Rattle.ascent_search.specs.declared.progress.TreeProgress.{TreeProgress}
 
 -- the cuts of a search
-abbrev pub cuts_of : Problem → Progress → List Cut
+abbrev pub cuts_of : Problem → TreeProgress → List Cut
 cuts_of p s = kept_cuts p s.cuts.cuts
 
 -- the cutoff at which its leaves fathom
-abbrev pub target_of : Progress → ℕ
+abbrev pub target_of : TreeProgress → ℕ
 target_of s = lesser s.cost s.left
 
 -- its lines lead from the first branches to the last, which are still to be filled
-abbrev pub WalksTo : Problem → Progress → List Branching → List Branching → Type 0
+abbrev pub WalksTo : Problem → TreeProgress → List Branching → List Branching → Type 0
 WalksTo p s first last = Walks p (cuts_of p s) (target_of s) first (lines_of s.lines.items) last
 
 -- its lines prove this cutoff: they lead from the first branches to some others, and each is sound for it
-abbrev pub Proves : Problem → Progress → List Branching → ℕ → Type 0
+abbrev pub Proves : Problem → TreeProgress → List Branching → ℕ → Type 0
 Proves p s first target = (other : List Branching) × Walks p (cuts_of p s) target first (lines_of s.lines.items) other
 
 -- the cutoff is no more than what leaves say, where one says anything
@@ -39,7 +39,7 @@ abbrev pub Says : ℕ → Option ℕ → Type 0
 Says target left = IfSome left (λ low. target ≤ low)
 
 -- what is proved after was proved before, and is no more than what leaves say, if it was so before
-abbrev pub KeepsBest : Problem → List Branching → Progress → Progress → Type 0
+abbrev pub KeepsBest : Problem → List Branching → TreeProgress → TreeProgress → Type 0
 KeepsBest p first before after = (target : ℕ) → Proves p after first target
     → Proves p before first target × (Says target before.left → Says target after.left)
 
@@ -66,7 +66,7 @@ pub record IsFirst (t : Task) (hubs : List ℕ) (cost : ℕ) : Type 0 where
 -- hubs. It costs at most what the hubs cost with which each search begins. It costs at most what the task's first
 -- nodes cost, where they are a wanted hub set. No more nodes are made than are allowed. Unless the search stopped,
 -- the cutoff at which its leaves fathom is within the gap.
-pub record IsGoing (t : Task) (s : Progress) : Type 0 where
+pub record IsGoing (t : Task) (s : TreeProgress) : Type 0 where
   pub problem : IsProblem t.instance.now
   pub kept : AreKeptFor t.instance.now s.cuts
   pub own : All IsRemade s.cuts.cuts
@@ -87,7 +87,7 @@ pub record IsGoing (t : Task) (s : Progress) : Type 0 where
   pub near : s.stopped ≡ false → IsWithinGap t.gap (target_of s) s.cost
 
 -- the search goes on with the same lines and nodes: what its lines led to they still lead to
-pub record IsAt (t : Task) (before after : Progress) : Type 0 where
+pub record IsAt (t : Task) (before after : TreeProgress) : Type 0 where
   pub going : IsGoing t after
   pub walks : (first last : List Branching) → WalksTo t.instance.now before first last → WalksTo t.instance.now after first last
   pub best : (first last : List Branching) → WalksTo t.instance.now before first last → KeepsBest t.instance.now first before after
@@ -96,12 +96,12 @@ pub record IsAt (t : Task) (before after : Progress) : Type 0 where
   pub stopped : after.stopped ≡ before.stopped
 
 -- a whole tree of the branch is allowed: 2 ^ (free nodes + 1) - 1 nodes, of which the branch itself is made
-abbrev pub MayBeWhole : Task → Branching → Progress → Type 0
+abbrev pub MayBeWhole : Task → Branching → TreeProgress → Type 0
 MayBeWhole t b s = IsEnough (s.made + 2 ^ (length b.free + 1) - 1) t.nodes
 
 -- the branch has been filled, with a line for each node that was made, and one for the branch itself: no more than a
 -- whole tree has, and without a stop where a whole tree is allowed
-pub record IsDone (t : Task) (b : Branching) (before after : Progress) : Type 0 where
+pub record IsDone (t : Task) (b : Branching) (before after : TreeProgress) : Type 0 where
   pub going : IsGoing t after
   pub walks : (first pending : List Branching)
       → WalksTo t.instance.now before first (b ∷ pending) → WalksTo t.instance.now after first pending
@@ -111,12 +111,12 @@ pub record IsDone (t : Task) (b : Branching) (before after : Progress) : Type 0 
   pub enough : MayBeWhole t b before → before.stopped ≡ false → after.stopped ≡ false
 
 -- the line was added at the branch: whatever cutoff the lines prove with it, it is sound there for that cutoff
-abbrev pub IsLastLine : Task → Branching → TreeLine → Progress → Progress → Type 0
+abbrev pub IsLastLine : Task → Branching → TreeLine → TreeProgress → TreeProgress → Type 0
 IsLastLine t b line before after = (first pending : List Branching) (target : ℕ) → WalksTo t.instance.now before first (b ∷ pending)
     → Proves t.instance.now after first target → IsSoundLine t.instance.now (cuts_of t.instance.now before) target b line
 
 -- in the place of the branch its two children on the free node are to be filled
-pub record IsHalved (t : Task) (b : Branching) (k : ℕ) (before after : Progress) : Type 0 where
+pub record IsHalved (t : Task) (b : Branching) (k : ℕ) (before after : TreeProgress) : Type 0 where
   pub free : Contains b.free k
   pub going : IsGoing t after
   pub walks : (first pending : List Branching) → WalksTo t.instance.now before first (b ∷ pending)
@@ -127,13 +127,13 @@ pub record IsHalved (t : Task) (b : Branching) (k : ℕ) (before after : Progres
   pub stopped : after.stopped ≡ before.stopped
 
 -- a heuristic made its proposal: the branch has been filled, or the search goes on, and two nodes more are allowed
-abbrev pub IsAdvised : Task → Branching → Progress → Progress → Bool → Type 0
+abbrev pub IsAdvised : Task → Branching → TreeProgress → TreeProgress → Bool → Type 0
 IsAdvised t b before after true = IsDone t b before after
 IsAdvised t b before after false = IsAt t before after × AreWithin t.nodes (after.made + 2)
 
 -- the lines lead from the root to the end, one for each node; no more than a whole tree has, and no stop came where
 -- as many are allowed
-pub record IsOver (t : Task) (s : Progress) : Type 0 where
+pub record IsOver (t : Task) (s : TreeProgress) : Type 0 where
   pub going : IsGoing t s
   pub walks : WalksTo t.instance.now s (root t.instance.now ∷ []) []
   pub best : (target : ℕ) → Proves t.instance.now s (root t.instance.now ∷ []) target → Says target s.left

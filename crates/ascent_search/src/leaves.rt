@@ -16,7 +16,7 @@ ghost use Rattle.ascent_search.specs.Walking.{IsWalking, IsSameWalk};
 ghost use Rattle.ascent_search.specs.SingleCuts.{ClosesBy, weights_on, IsChoice, IsOrderedSet};
 
 use crate::bounds::{bare_bound, is_above, kept_bound};
-use crate::progress::{Progress, end_with, goal, offer};
+use crate::progress::{TreeProgress, end_with, goal, offer};
 use crate::task::Task;
 use crate::walk::Walk;
 use cut_pool::KeptCut;
@@ -140,7 +140,7 @@ fn offer_set(
     task: &Task,
     set: &HubSet,
     total: u128,
-    progress: &mut Progress,
+    progress: &mut TreeProgress,
 ) -> Result<(), AllocError>
     requires going { IsGoing task.now progress.old }
     requires set { IsHubSet task.now.instance.now set.now }
@@ -164,7 +164,7 @@ pub(crate) struct Choice {
     pub(crate) bound: i128,
 }
 
-fn best_choice(task: &Task, branch: &Branch, progress: &Progress) -> Choice
+fn best_choice(task: &Task, branch: &Branch, progress: &TreeProgress) -> Choice
     requires going { IsGoing task.now progress.now }
     requires branch { IsBranch task.now.instance.now branch.now }
     requires room { HasRoom task.now.instance.now.wanted branch.now }

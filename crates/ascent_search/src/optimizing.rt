@@ -11,7 +11,7 @@ ghost use Rattle.cut_pool.specs.Findings.{AreRemade, IsProved};
 ghost use Rattle.ascent_search.specs.Gaps.{most_gap, IsWithinGap};
 ghost use Rattle.ascent_search.specs.Progressing.{AreFirstHubs, IsWantedAs, IsFirst, IsGoing, IsDone, IsOver, IsBestBound};
 
-use crate::progress::{Progress, target, wanted_set};
+use crate::progress::{TreeProgress, target, wanted_set};
 use crate::task::Task;
 use crate::walker::Walker;
 use assign_sub::{assign, cost_of_set};
@@ -108,8 +108,8 @@ fn fill_tree<'a, R: Threads + Sync, A: Advice + Drop>(
     alloc: Global,
     task: &'a Task<'a>,
     advice: A,
-    begun: Progress,
-) -> Result<Progress, AllocError>
+    begun: TreeProgress,
+) -> Result<TreeProgress, AllocError>
     requires going { IsGoing task.now begun }
     requires workers { (1 ≤ task.now.workers) × (task.now.workers ≤ 64) }
     ensures { IfOk result (IsDone task.now (root task.now.instance.now) begun) }
@@ -123,7 +123,7 @@ fn fill_tree<'a, R: Threads + Sync, A: Advice + Drop>(
 
 // The state at the start: no cut, no line, and the cheaper of two incumbents: the instance's own, and the first nodes
 // of the task.
-fn begin(alloc: Global, task: &Task) -> Result<Progress, AllocError>
+fn begin(alloc: Global, task: &Task) -> Result<TreeProgress, AllocError>
     requires lacks_none { IsHubSet task.now.instance.now task.now.instance.now.candidates }
     requires gap { task.now.gap ≤ most_gap }
     ensures going { IfOk result (IsGoing task.now) }
@@ -133,7 +133,7 @@ fn begin(alloc: Global, task: &Task) -> Result<Progress, AllocError>
     ensures no_left { IfOk result (λ s. s.left ≡ None) }
 {
     let Incumbent { hubs, cost } = first_incumbent(alloc, task)?;
-    Ok(Progress {
+    Ok(TreeProgress {
         cuts: KeptCuts::new(alloc),
         lines: Vec::new(alloc),
         hubs,
@@ -186,7 +186,7 @@ fn cheaper(task: &Task, own: Incumbent, given: HubSet) -> Incumbent
 }
 
 // The incumbent with its least routes, and the lower bound on the cost of every plan.
-fn finish(alloc: Global, task: &Task, progress: Progress) -> Result<Found, AllocError>
+fn finish(alloc: Global, task: &Task, progress: TreeProgress) -> Result<Found, AllocError>
     requires { IsOver task.now progress }
     ensures proved { IfOk result (IsProved task.now.instance.now) }
     ensures own { IfOk result AreRemade }

@@ -24,7 +24,7 @@ use std::alloc::{AllocError, Global};
 /// Cuts, tree lines, incumbent with its cost, number of nodes, whether the search was stopped, and `left`: the least
 /// bound of a leaf on a cut or of a stop. Costs are in 10^-12.
 #[derive(Drop)]
-pub(crate) struct Progress {
+pub(crate) struct TreeProgress {
     pub(crate) cuts: KeptCuts,
     pub(crate) lines: Vec<TreeLine>,
     pub(crate) hubs: HubSet,
@@ -35,14 +35,14 @@ pub(crate) struct Progress {
 }
 
 /// The bound that all leaves reach, in 10^-12: the incumbent's cost, or the least of it and of `left`.
-pub(crate) fn target(progress: &Progress) -> u128
+pub(crate) fn target(progress: &TreeProgress) -> u128
     ensures { result ≡ target_of progress.now }
 {
     lesser(progress.cost, progress.left)
 }
 
 /// The cutoff of a leaf before a stop, in 10^-12: the incumbent's cost less the gap.
-pub(crate) fn goal(task: &Task, progress: &Progress) -> u128
+pub(crate) fn goal(task: &Task, progress: &TreeProgress) -> u128
     requires { IsGoing task.now progress.now }
     ensures value { result ≡ goal_of task.now.gap progress.now.cost }
     ensures limit { result ≤ most_cost }
@@ -55,7 +55,7 @@ pub(crate) fn end_with(
     task: &Task,
     branch: &Branch,
     line: TreeLine,
-    progress: &mut Progress,
+    progress: &mut TreeProgress,
 ) -> Result<(), AllocError>
     requires going { IsGoing task.now progress.old }
     requires end { IsEndLine (tree_line_of line) }
@@ -74,7 +74,7 @@ pub(crate) fn split_on(
     task: &Task,
     branch: &Branch,
     k: u32,
-    progress: &mut Progress,
+    progress: &mut TreeProgress,
 ) -> Result<(), AllocError>
     requires going { IsGoing task.now progress.old }
     requires branch { IsBranch task.now.instance.now branch.now }
@@ -88,7 +88,7 @@ pub(crate) fn split_on(
 }
 
 /// Returns whether two more nodes are allowed.
-pub(crate) fn may_split(task: &Task, progress: &Progress) -> bool
+pub(crate) fn may_split(task: &Task, progress: &TreeProgress) -> bool
     requires { IsGoing task.now progress.now }
     ensures may { IsTrue result → AreWithin task.now.nodes (progress.now.made + 2) }
     ensures spent { result ≡ false → IsSpent task.now.nodes progress.now.made }
@@ -97,7 +97,7 @@ pub(crate) fn may_split(task: &Task, progress: &Progress) -> bool
 }
 
 /// Makes the wanted set the incumbent, if it costs less.
-pub(crate) fn offer(task: &Task, set: HubSet, cost: u128, progress: &mut Progress)
+pub(crate) fn offer(task: &Task, set: HubSet, cost: u128, progress: &mut TreeProgress)
     requires going { IsGoing task.now progress.old }
     requires set { IsHubSet task.now.instance.now set }
     requires wanted { HasWanted task.now.instance.now set }
@@ -117,7 +117,7 @@ pub(crate) fn offer_nodes(
     alloc: Global,
     task: &Task,
     hubs: &[u32],
-    progress: &mut Progress,
+    progress: &mut TreeProgress,
 ) -> Result<(), AllocError>
     requires { IsGoing task.now progress.old }
     ensures { OnOk result (IsAt task.now progress.old progress.new) }

@@ -3,7 +3,7 @@
 ghost use Rattle.std.specs.Prelude.{◌≡◌, IfOk};
 
 use crate::bench::Bench;
-use crate::progress::Progress;
+use crate::progress::TreeProgress;
 use crate::task::Task;
 use std::alloc::{AllocError, Global};
 
@@ -13,7 +13,7 @@ pub(crate) struct Walk<'a> {
     pub(crate) alloc: Global,
     pub(crate) task: &'a Task<'a>,
     pub(crate) bench: Bench<'a>,
-    pub(crate) progress: Progress,
+    pub(crate) progress: TreeProgress,
 }
 
 impl<'a> Walk<'a> {
@@ -22,7 +22,7 @@ impl<'a> Walk<'a> {
         alloc: Global,
         task: &'a Task<'a>,
         unit: u64,
-        progress: Progress,
+        progress: TreeProgress,
     ) -> Result<Walk<'a>, AllocError>
         ensures task { IfOk result (λ w. w.task.now ≡ task.now) }
         ensures bench { IfOk result (λ w. w.bench.problem ≡ task.now.instance.now) }

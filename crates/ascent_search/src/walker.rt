@@ -3,7 +3,7 @@
 ghost use Rattle.std.specs.Prelude.{◌≡◌, IfOk};
 
 use crate::guide::Guide;
-use crate::progress::Progress;
+use crate::progress::TreeProgress;
 use crate::task::Task;
 use crate::walk::Walk;
 use search_advice::Advice;
@@ -24,7 +24,7 @@ impl<'a, R, A: Advice + Drop> Walker<'a, R, A> {
         alloc: Global,
         task: &'a Task<'a>,
         advice: A,
-        progress: Progress,
+        progress: TreeProgress,
     ) -> Result<Walker<'a, R, A>, AllocError>
         ensures task { IfOk result (λ w. w.walk.task.now ≡ task.now) }
         ensures bench { IfOk result (λ w. w.walk.bench.problem ≡ task.now.instance.now) }

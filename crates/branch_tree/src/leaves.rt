@@ -12,13 +12,13 @@ ghost use Rattle.search_steps.specs.Progressing.{state_of, IsGoing};
 ghost use Rattle.branch_tree.specs.Lines.{IsDone};
 
 use crate::lines::add_line;
-use crate::walk::Walk;
+use crate::walk::RuleWalk;
 use hub_model::{Branch, HubSet, outside};
 use search_core::whole_leaf;
 use search_steps::{Rule, Separator, leaf_line, number_of, stopped_leaf};
 use std::alloc::AllocError;
 
-impl<R: Rule> Walk<'_, R> {
+impl<R: Rule> RuleWalk<'_, R> {
     /// Adds the leaf with these weights.
     pub(crate) fn add_leaf(&mut self, weights: &[u128]) -> Result<(), AllocError>
         requires serves { R.serves self.old.rule.now self.old.task.now.instance.now }

@@ -10,7 +10,7 @@ ghost use Rattle.search_steps.specs.Kinds.{parts_for};
 ghost use Rattle.search_steps.specs.Progressing.{state_of, IsGoing};
 ghost use Rattle.branch_tree.specs.Rounding.{round_as, IsRound};
 
-use crate::walk::Walk;
+use crate::walk::RuleWalk;
 use frac_master::Advice;
 use hub_model::Branch;
 use pareto_cuts::order_of;
@@ -26,7 +26,7 @@ pub(crate) struct RoundEnd {
     pub(crate) again: bool,
 }
 
-impl<R: Rule> Walk<'_, R> {
+impl<R: Rule> RuleWalk<'_, R> {
     /// Up to three rounds in the branch, which begin with these weights.
     pub(crate) fn rounds<S: Separator>(
         &mut self,

@@ -13,7 +13,7 @@ ghost use Rattle.branch_tree.specs.Findings.{found_by};
 ghost use Rattle.search_steps.specs.Findings.{IsFound};
 ghost use Rattle.search_steps.specs.Kinds.{minimal, parts_for};
 
-use crate::walk::Walk;
+use crate::walk::RuleWalk;
 use cut_pool::Found;
 use hub_model::{Branch, Instance};
 use search_core::Task;
@@ -77,7 +77,7 @@ pub(crate) fn search_on<R: Rule, S: Separator>(
     ensures found { let p = task.now.instance.now in
         IfOk result (IsFound p (searched p (parts_for S.kind p) task.now.nodes (state_of p progress))) }
 {
-    let mut walk = Walk {
+    let mut walk = RuleWalk {
         alloc,
         task,
         rule,

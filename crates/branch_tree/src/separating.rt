@@ -8,12 +8,12 @@ ghost use Rattle.search_spec.specs.Steps.{separated};
 ghost use Rattle.search_steps.specs.Kinds.{parts_for};
 ghost use Rattle.search_steps.specs.Progressing.{state_of, IsGoing, IsAt};
 
-use crate::walk::Walk;
+use crate::walk::RuleWalk;
 use hub_model::HubSet;
 use search_steps::{Rule, Separator, separate};
 use std::alloc::AllocError;
 
-impl<R: Rule> Walk<'_, R> {
+impl<R: Rule> RuleWalk<'_, R> {
     /// Separates the set over this order of the other candidates. It becomes the incumbent if it costs less.
     ///
     /// The answer is `AllocError` also where there are as many cuts as a certificate can have.

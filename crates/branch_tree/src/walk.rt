@@ -6,7 +6,7 @@ use std::alloc::Global;
 
 /// A walk over the tree: its task, the rule, and what the search has so far.
 #[derive(Drop)]
-pub(crate) struct Walk<'a, R> {
+pub(crate) struct RuleWalk<'a, R> {
     pub(crate) alloc: Global,
     pub(crate) task: &'a Task<'a>,
     pub(crate) rule: &'a R,

@@ -14,13 +14,13 @@ ghost use Rattle.search_steps.specs.FixingsLeft.{AreOnFree};
 
 use crate::lines::{add_line, split_on};
 use crate::rounds::RoundEnd;
-use crate::walk::Walk;
+use crate::walk::RuleWalk;
 use hub_model::Branch;
 use leaf_bound::Side;
 use search_steps::{Rule, Separator, may_split, nearest};
 use std::alloc::AllocError;
 
-impl<R: Rule> Walk<'_, R> {
+impl<R: Rule> RuleWalk<'_, R> {
     /// Handles the node of a branch that has fewer free nodes than the depth, with these weights, and all nodes below it.
     #[cycle(walk)]
     pub(crate) fn node<S: Separator>(

@@ -8,13 +8,13 @@ ghost use Rattle.search_steps.specs.Advising.{parts_of};
 ghost use Rattle.search_steps.specs.Weights.{AreNodeWeights, pairs_of, sides_as};
 ghost use Rattle.search_steps.specs.Progressing.{state_of, IsGoing};
 
-use crate::walk::Walk;
+use crate::walk::RuleWalk;
 use hub_model::Branch;
 use leaf_bound::Side;
 use search_steps::{NodeWeights, Rule, closes, is_better};
 use std::alloc::AllocError;
 
-impl<R: Rule> Walk<'_, R> {
+impl<R: Rule> RuleWalk<'_, R> {
     /// The master's weights if their bound is above that of the present ones, else the present ones.
     pub(crate) fn better_weights(
         &self,

@@ -12,14 +12,14 @@ ghost use Rattle.cert_conditions.specs.Sums.{
   IsLastAdded,
 };
 
-use crate::sums::CutSums;
+use crate::sums::RunningSums;
 use std::alloc::{AllocError, Global};
 use std::marker::Model;
 
 /// The sums of each cut in the order of their numbers, of which the last may still lack duals.
 #[derive(Drop)]
 pub(crate) struct CutList {
-    sums: Vec<CutSums>,
+    sums: Vec<RunningSums>,
 }
 
 impl Model for CutList {
@@ -49,7 +49,7 @@ impl CutList {
             (sums : CutTally) × IsNoDual n part sums × (self.new ≡ self.old ++ sums ∷ [])) }
         ensures same { OnErr result (self.new ≡ self.old) }
     {
-        let sums = CutSums::new(alloc, n, part)?;
+        let sums = RunningSums::new(alloc, n, part)?;
         self.sums.push(sums)?;
         Ok(())
     }
@@ -73,7 +73,7 @@ impl CutList {
     }
 
     /// The sums of the last cut.
-    pub(crate) fn last(&self) -> &CutSums
+    pub(crate) fn last(&self) -> &RunningSums
         requires { self.now ≢ [] }
         ensures { result.now ≡ last_of self.now }
     {
@@ -81,7 +81,7 @@ impl CutList {
     }
 
     /// The sums of the cut of this number, counted from 1.
-    pub(crate) fn numbered(&self, c: u128) -> &CutSums
+    pub(crate) fn numbered(&self, c: u128) -> &RunningSums
         requires least { 1 ≤ c }
         requires most { c ≤ length self.now }
         ensures { result.now ≡ numbered self.now c }

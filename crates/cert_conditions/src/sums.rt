@@ -13,14 +13,14 @@ use std::marker::Model;
 /// The part of a cut, the number of its duals, the sum of their prices, and by node the sums of their values. Prices and
 /// values are in 10^-12.
 #[derive(Drop)]
-pub(crate) struct CutSums {
+pub(crate) struct RunningSums {
     part: u32,
     count: u32,
     total: u128,
     loads: Vec<u128>,
 }
 
-impl Model for CutSums {
+impl Model for RunningSums {
     ghost use Rattle.cert_conditions.specs.Sums.{CutTally, AreWithinRange};
 
     ghost Value = { CutTally };
@@ -35,14 +35,14 @@ impl Model for CutSums {
     }) };
 }
 
-impl CutSums {
+impl RunningSums {
     /// The sums of no dual over `n` nodes, for a cut with this part.
-    pub(crate) fn new(alloc: Global, n: u32, part: u32) -> Result<CutSums, AllocError>
+    pub(crate) fn new(alloc: Global, n: u32, part: u32) -> Result<RunningSums, AllocError>
         requires least { 1 ≤ part }
         requires most { part ≤ most_part }
         ensures { IfOk result (IsNoDual n part) }
     {
-        Ok(CutSums {
+        Ok(RunningSums {
             part,
             count: 0,
             total: 0,

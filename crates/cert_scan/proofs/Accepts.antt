@@ -37,7 +37,7 @@ use Rattle.cert_scan.specs.declared.stages.TreeAt.{TreeAt}
 use Rattle.cert_scan.specs.declared.stages.Stage.{Stage}
 use Rattle.cert_scan.specs.declared.stages.Stage.TheVariants.{Version, Size, Cost, Bound, Hubs, Route, Cuts, Cut, Dual, ProvedDual, Proof, Nodes, Tree, End, Nothing}
 use Rattle.cert_scan.specs.declared.items.Version.{Version as TextVersion}
-use Rattle.cert_scan.specs.declared.stages.Run.{Run}
+use Rattle.cert_scan.specs.declared.stages.LineRun.{LineRun}
 use Rattle.cert_scan.specs.declared.stages.Shape.{Shape}
 use Rattle.cert_scan.proofs.ReadLines.{Reads, Ends, ends_line, ends_more, ends_numbers, keyword_passes, next_passes, allows, is_within, last_number, ReadsOn, is_hub, reads_hubs, reads_mark, node_of, is_weight, DualClimbs, dual_climbs, starts_high, reads_proof, first_shape, second_shape, third_shape, cut_fits, reads_size, reads_route, reads_whole_cut, reads_cut_part, told_price, node_told, reads_dual, reads_proved, reads_run, reads_branch, reads_leaf, reads_block}
 
@@ -137,7 +137,7 @@ at_least_two (suc zero) some other = absurd (other refl)
 at_least_two (suc (suc k)) some other = omega arith
 
 -- the dual of several commodities, where the first word of a dual may go on
-several_line : (sh : Shape) (line : ℕ) (run : Run) (dual : Prices) (before : Option Prices)
+several_line : (sh : Shape) (line : ℕ) (run : LineRun) (dual : Prices) (before : Option Prices)
     → Goes (state sh line (Start (Dual run.first))) (codes "duals" ++ 32 ∷ []) [] (state sh line (Number (RunFrom run.first) None)) → IsSize sh.n
     → run.first.before < run.first.all → IsCommodity sh.n run.first.commodity → IsRunOf sh run → DualClimbs sh dual → nat_eq run.length 1 ≡ false
     → Ends (state sh line (Start (Dual run.first))) (pieces_of (says_dual (run.first.commodity.from, run.first.commodity.to) run.length dual))

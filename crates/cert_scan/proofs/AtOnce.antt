@@ -15,7 +15,7 @@ use Rattle.cert_scan.specs.declared.items.Version.TheVariants.{First, Second, Th
 use Rattle.cert_scan.specs.declared.stages.Stage.{Stage}
 use Rattle.cert_scan.specs.declared.items.Item.{Item}
 use Rattle.cert_scan.specs.declared.items.Item.TheVariants.{DualPair as pair_item, ProofPair as way_item, Dual as dual_item, Proof as proof_item}
-use Rattle.cert_scan.specs.declared.bytes.Move.{Move}
+use Rattle.cert_scan.specs.declared.bytes.ScanMove.{ScanMove}
 use Rattle.cert_scan.specs.declared.bytes.Position.{Position}
 use Rattle.cert_scan.specs.declared.bytes.Position.TheVariants.{Number, Failed, Start, Keyword}
 use Rattle.cert_scan.specs.declared.places.Place.{Place}
@@ -32,7 +32,7 @@ use Rattle.cert_scan.proofs.ScanBytes.{quiet_step, quiet_gives}
 use Rattle.cert_scan.proofs.LineRuns.{word_run, space_run, word_goes}
 use Rattle.cert_scan.specs.declared.heads.Head.TheVariants.{DualLine, DualsLine, ProvedLine, ProofLine}
 use Rattle.cert_scan.specs.declared.stages.DualAt.{DualAt}
-use Rattle.cert_scan.specs.declared.stages.Run.{Run}
+use Rattle.cert_scan.specs.declared.stages.LineRun.{LineRun}
 use Rattle.cert_scan.specs.declared.stages.Subject.TheVariants.{Plain, Proved}
 use Rattle.cert_scan.specs.declared.stages.Stage.TheVariants.{Dual, ProvedDual, Proof}
 use Rattle.cert_scan.specs.declared.fronts.DualFront.{DualFront}
@@ -64,7 +64,7 @@ pair_node old subject before bytes pair is ahead =
     ahead.node (value_node_goes old.shape before pair.number subject ahead.above ahead.within)
 
 -- the pair is taken
-pair_takes : (old new : Scan) (subject : Subject) (before : ℕ) (bytes : List ℕ) (pair : Pair) (item : Option Item) (next : Move)
+pair_takes : (old new : Scan) (subject : Subject) (before : ℕ) (bytes : List ℕ) (pair : Pair) (item : Option Item) (next : ScanMove)
     → old.position ≡ Number (ValueNode subject before) None → IsPairAhead old.shape.n before bytes pair
     → next ≡ taken_by old.shape (ValueAmount subject pair.number) pair.value pair.last → item ≡ (sifted old next).item → new ≡ moved old next
     → Takes old bytes pair.behind item new
@@ -73,7 +73,7 @@ pair_takes old new subject before bytes pair item next is ahead taken gives afte
     ahead.amount taken gives after
 
 -- and gives its item
-pub pair_runs : (old new : Scan) (subject : Subject) (before : ℕ) (bytes : List ℕ) (pair : Pair) (item : Option Item) (next : Move)
+pub pair_runs : (old new : Scan) (subject : Subject) (before : ℕ) (bytes : List ℕ) (pair : Pair) (item : Option Item) (next : ScanMove)
     → old.position ≡ Number (ValueNode subject before) None → IsPairAhead old.shape.n before bytes pair
     → next ≡ taken_by old.shape (ValueAmount subject pair.number) pair.value pair.last → item ≡ (sifted old next).item → new ≡ moved old next
     → (item ≡ None → ⊥) → Runs old bytes pair.behind item new
@@ -98,7 +98,7 @@ value_given : (sh : Shape) (subject : Subject) (number value : ℕ) (last : Bool
     → (taken_by sh (ValueAmount subject number) value last).item ≡ None → ⊥
 value_given sh subject number value last some few e =
     open_given last (pair_item (number - 1) value last) (ValueNode subject number) (stage_after_subject sh.n subject)
-    (sym (ap (λ (m : Move). m.item) (cond-true (nat_le 1 value && nat_lt value (amount_limit sh.version)) _ (refusal last) (value_fits sh value some few))) ∙ e)
+    (sym (ap (λ (m : ScanMove). m.item) (cond-true (nat_le 1 value && nat_lt value (amount_limit sh.version)) _ (refusal last) (value_fits sh value some few))) ∙ e)
 
 value_moves : (sh : Shape) (subject : Subject) (number value : ℕ) → 1 ≤ value → value < 2 ^ 64
     → taken_by sh (ValueAmount subject number) value false ≡ move (Number (ValueNode subject number) None) (Some (pair_item (number - 1) value false))
@@ -106,13 +106,13 @@ value_moves sh subject number value some few =
     cond-true (nat_le 1 value && nat_lt value (amount_limit sh.version)) _ (refusal false) (value_fits sh value some few)
 
 -- a move with an item that is not given fails
-sifted_failed : (s : Scan) (next : Move) → (next.item ≡ None → ⊥) → (sifted s next).item ≡ None → (sifted s next).position ≡ Failed
+sifted_failed : (s : Scan) (next : ScanMove) → (next.item ≡ None → ⊥) → (sifted s next).item ≡ None → (sifted s next).position ≡ Failed
 sifted_failed s next some none =
     cond_both (repeats_by s.shape.version s.so_far next.item) (refusal true) next (λ m. m.item ≡ None → m.position ≡ Failed)
     (λ e n. refl) (λ e n. absurd (some n)) none
 
 -- where it gives none, its dual repeats the one before it, and the line was bad
-pub pair_fails : (old new : Scan) (subject : Subject) (before : ℕ) (bytes : List ℕ) (pair : Pair) (item : Option Item) (next : Move)
+pub pair_fails : (old new : Scan) (subject : Subject) (before : ℕ) (bytes : List ℕ) (pair : Pair) (item : Option Item) (next : ScanMove)
     → old.position ≡ Number (ValueNode subject before) None → IsPairAhead old.shape.n before bytes pair
     → next ≡ taken_by old.shape (ValueAmount subject pair.number) pair.value pair.last → item ≡ (sifted old next).item → new ≡ moved old next
     → item ≡ None → Runs old bytes (length bytes) None new
@@ -122,7 +122,7 @@ pair_fails old new subject before bytes pair item next is ahead taken gives afte
     let takes = pair_takes old new subject before bytes pair item next is ahead taken gives after in
     let within = takes.within in
     let some : next.item ≡ None → ⊥ =
-    λ e. value_given old.shape subject pair.number pair.value pair.last ahead.some ahead.few (sym (ap (λ (m : Move). m.item) taken) ∙ e) in
+    λ e. value_given old.shape subject pair.number pair.value pair.last ahead.some ahead.few (sym (ap (λ (m : ScanMove). m.item) taken) ∙ e) in
     let failed : new.position ≡ Failed = ap (λ s. s.position) after ∙ sifted_failed old next some (sym gives ∙ none) in
     let long : length (take (length bytes - count) (drop count bytes)) ≡ length bytes - count =
     length-take-le (length bytes - count) (drop count bytes) (omega (arith, length-drop count bytes)) in
@@ -182,7 +182,7 @@ way_other : (v : TextVersion) (so_far : DualSoFar) (k m y : ℕ) (last : Bool)
     → (repeats_by v so_far (Some (way_item k m y last)) ≡ false) × (noted_by v so_far (Some (way_item k m y last)) ≡ so_far)
 way_other v so_far k m y last = other_item v so_far (way_item k m y last) (record { ends = refl; same = λ s. refl })
 
-way_kept : (s : Scan) (next : Move) (k m y : ℕ) (last : Bool) → next.item ≡ Some (way_item k m y last) → sifted s next ≡ next
+way_kept : (s : Scan) (next : ScanMove) (k m y : ℕ) (last : Bool) → next.item ≡ Some (way_item k m y last) → sifted s next ≡ next
 way_kept s next k m y last e =
     cond-false (repeats_by s.shape.version s.so_far next.item) (refusal true) next
     (ap (repeats_by s.shape.version s.so_far) e ∙ (way_other s.shape.version s.so_far k m y last).0)
@@ -202,7 +202,7 @@ none_given : (item : Option Item) (listed : Item) → item ≡ Some listed → i
 none_given item listed given none = cc
 
 -- a way behind which the line ends, or goes on
-pub way_ends : (old new : Scan) (at : WaysAt) (bytes : List ℕ) (way : Way) (item : Option Item) (next : Move)
+pub way_ends : (old new : Scan) (at : WaysAt) (bytes : List ℕ) (way : Way) (item : Option Item) (next : ScanMove)
     → old.position ≡ Number (WayFrom at) None → IsWayAhead old.shape.n at bytes way
     → next ≡ taken_by old.shape (WayTaken (way_behind at.dual way.from way.to)) way.taken way.last → item ≡ (sifted old next).item
     → new ≡ moved old next → Runs old bytes way.behind item new
@@ -210,10 +210,10 @@ way_ends old new at bytes way item next is ahead taken gives after =
     let listed : Item = way_item (way.from - 1) (way.to - 1) way.taken way.last in
     let place = way_behind at.dual way.from way.to in
     let told : next.item ≡ Some (way_item (way.from - 1) (way.to - 1) way.taken way.last) =
-    ap (λ (m : Move). m.item) (taken ∙ taken_moves old.shape place way.taken way.last ahead.some ahead.few)
+    ap (λ (m : ScanMove). m.item) (taken ∙ taken_moves old.shape place way.taken way.last ahead.some ahead.few)
     ∙ open_item way.last listed (WayFrom place) (stage_after_proof old.shape.n at.dual) in
     let kept = way_kept old next (way.from - 1) (way.to - 1) way.taken way.last told in
-    let given : item ≡ Some (way_item (way.from - 1) (way.to - 1) way.taken way.last) = gives ∙ ap (λ (m : Move). m.item) kept ∙ told in
+    let given : item ≡ Some (way_item (way.from - 1) (way.to - 1) way.taken way.last) = gives ∙ ap (λ (m : ScanMove). m.item) kept ∙ told in
     takes_run old new bytes way.behind item
     (number_takes old new bytes ahead.next way.taken way.last way.behind (WayTaken place) item next (way_nodes old at bytes way is ahead) ahead.third taken gives after)
     (λ none. none_given item listed given none)
@@ -261,10 +261,10 @@ nodes_run old bytes at behind d first second third before are from to =
 
 -- ---- duals
 
-abbrev run_at : DualAt → ℕ → Run
+abbrev run_at : DualAt → ℕ → LineRun
 run_at at count = record { first = at; length = count }
 
-abbrev priced : Run → ℕ → Item
+abbrev priced : LineRun → ℕ → Item
 priced run price = dual_item run.first.commodity.from run.first.commodity.to run.length price false
 
 price_goes : (sh : Shape) (subject : Subject) (price : ℕ) → price < 2 ^ 64

@@ -12,7 +12,7 @@ use Rattle.cert_scan.specs.declared.scanner.Scan.{Scan}
 use Rattle.std.proofs.Common.{◌≡◌, ℕ, ◌+◌, ◌*◌, ◌/◌, ◌%◌, ◌^◌, ◌<◌, ◌≤◌, true, false, ◌&&◌, List, [], ◌∷◌, ◌++◌, decimal, Option, Some, None, nat_lt, nat_le, refl, sym, ap, ◌∙◌, append_assoc, append-nil, arith}
 use Rattle.std.proofs.lemmas.Fmt.{decimal_by_steps_wide}
 use Rattle.std.proofs.lemmas.Bool.{and_from, cond-true, le-leb, lt-ltb}
-use Rattle.cert_scan.specs.declared.bytes.Move.{Move}
+use Rattle.cert_scan.specs.declared.bytes.ScanMove.{ScanMove}
 use Rattle.cert_scan.specs.declared.places.Place.{Place}
 
 pub record Walk : Type 0 where
@@ -78,12 +78,12 @@ abbrev pub state : Shape → ℕ → Position → Walk
 state sh line position = record { shape = sh; line = line; position = position }
 
 -- the walk after a move
-abbrev pub moved : Shape → ℕ → Move → Walk
+abbrev pub moved : Shape → ℕ → ScanMove → Walk
 moved sh line next = state (shape_by sh next.item) (line_by line next.position) next.position
 
-pub goes_byte : (sh : Shape) (line : ℕ) (position : Position) (byte : ℕ) (next : Move) → moved_by sh position byte ≡ next
+pub goes_byte : (sh : Shape) (line : ℕ) (position : Position) (byte : ℕ) (next : ScanMove) → moved_by sh position byte ≡ next
     → Goes (state sh line position) (byte ∷ []) (option_to_list next.item) (moved sh line next)
-goes_byte sh line position byte next e = record { scan = ap (moved sh line) e; items = append-nil _ ∙ ap (λ (m : Move). option_to_list m.item) e }
+goes_byte sh line position byte next e = record { scan = ap (moved sh line) e; items = append-nil _ ∙ ap (λ (m : ScanMove). option_to_list m.item) e }
 
 -- a digit goes on with a number
 number_digit : (sh : Shape) (place : Place) (value : Option ℕ) (digit : ℕ) → digit < 10
@@ -124,13 +124,13 @@ unfolding GoesNumber
 goes_number sh line place m short = decimal_by_steps_wide (GoesNumber sh line place) (one_digit sh line place) (next_digit sh line place) m (omega arith) short
 
 -- and the byte behind it takes the number
-pub goes_taken : (sh : Shape) (line : ℕ) (place : Place) (m : ℕ) (next : Move) → m < 10 ^ 33 → taken_by sh place m false ≡ next
+pub goes_taken : (sh : Shape) (line : ℕ) (place : Place) (m : ℕ) (next : ScanMove) → m < 10 ^ 33 → taken_by sh place m false ≡ next
     → Goes (state sh line (Number place None)) (decimal m ++ 32 ∷ []) (option_to_list next.item) (moved sh line next)
 goes_taken sh line place m next short e =
     goes_append (state sh line (Number place None)) (state sh line (Number place (Some m))) (moved sh line next) (decimal m) (32 ∷ []) [] (option_to_list next.item)
     (goes_number sh line place m short) (goes_byte sh line (Number place (Some m)) 32 next e)
 
-pub goes_last : (sh : Shape) (line : ℕ) (place : Place) (m : ℕ) (next : Move) → m < 10 ^ 33 → taken_by sh place m true ≡ next
+pub goes_last : (sh : Shape) (line : ℕ) (place : Place) (m : ℕ) (next : ScanMove) → m < 10 ^ 33 → taken_by sh place m true ≡ next
     → Goes (state sh line (Number place None)) (decimal m ++ 10 ∷ []) (option_to_list next.item) (moved sh line next)
 goes_last sh line place m next short e =
     goes_append (state sh line (Number place None)) (state sh line (Number place (Some m))) (moved sh line next) (decimal m) (10 ∷ []) [] (option_to_list next.item)

@@ -29,7 +29,7 @@ use Rattle.cert_scan.proofs.Said.{said}
 use Rattle.cert_scan.proofs.Turns.{opened, is_open, InCut, Opens}
 use Rattle.cert_scan.specs.declared.items.Item.{Item}
 use Rattle.cert_scan.specs.declared.items.Item.TheVariants.{Hub, CoreHub, DualPair, ProofPair, LeafPair, Cut as cut_item, Dual as dual_item, Proof as proof_item, Leaf as leaf_item}
-use Rattle.cert_scan.specs.declared.bytes.Move.{Move}
+use Rattle.cert_scan.specs.declared.bytes.ScanMove.{ScanMove}
 use Rattle.cert_scan.specs.declared.bytes.Position.{Position}
 use Rattle.cert_scan.specs.declared.bytes.Position.TheVariants.{Start, Number, Keyword, Spoiled, Failed}
 use Rattle.cert_scan.specs.declared.heads.Head.{Head}
@@ -225,7 +225,7 @@ here_begun sh stage Failed bytes given h = h
 -- ---- the end of a line
 
 -- the bytes of a line are one that may stand there, and gave its items; the stage is that behind it
-pub record LineEnds (sh : Shape) (stage : Stage) (bytes : List ℕ) (given : List Item) (next : Move) : Type 0 where
+pub record LineEnds (sh : Shape) (stage : Stage) (bytes : List ℕ) (given : List Item) (next : ScanMove) : Type 0 where
   pub line : Line
   pub wanted : Wants (stage_at sh stage) line
   pub text : bytes ≡ line_bytes line
@@ -234,7 +234,7 @@ pub record LineEnds (sh : Shape) (stage : Stage) (bytes : List ℕ) (given : Lis
   pub position : next.position ≡ Start at
   pub behind : IsAt (shape_by sh next.item) at (after (stage_at sh stage) line)
 
-ends_there : (sh : Shape) (stage : Stage) (bytes : List ℕ) (given : List Item) (next : Move) (line : Line) → IsStage (stage_at sh stage) → NamesNodes sh stage
+ends_there : (sh : Shape) (stage : Stage) (bytes : List ℕ) (given : List Item) (next : ScanMove) (line : Line) → IsStage (stage_at sh stage) → NamesNodes sh stage
     → Wants (stage_at sh stage) line → bytes ≡ line_bytes line → Goes (state sh 0 (Start stage)) bytes given (moved sh 0 next)
     → LineEnds sh stage bytes given next
 ends_there sh stage bytes given next line s names w text g =
@@ -312,5 +312,5 @@ AfterAt sh stage byte bytes given item Failed = Bad sh stage byte given item
 AfterAt sh stage byte bytes given item position = Goes_on sh stage byte position bytes given item
 
 -- what a move by a byte makes of the line; the bytes are those with it
-abbrev pub After : Shape → Stage → ℕ → List ℕ → List Item → Move → Type 0
+abbrev pub After : Shape → Stage → ℕ → List ℕ → List Item → ScanMove → Type 0
 After sh stage byte bytes given next = AfterAt sh stage byte bytes given next.item next.position

@@ -10,7 +10,7 @@ use Rattle.cert_scan.specs.Ahead.{byte_behind, IsNumberAt}
 use Rattle.cert_scan.proofs.ScanBytes.{quiet_step, quiet_gives}
 use Rattle.cert_scan.proofs.Stepping.{HasRun, digits_scanned, digits_give, run_more, run_byte, takes_byte, takes_run}
 use Rattle.cert_scan.specs.declared.items.Item.{Item}
-use Rattle.cert_scan.specs.declared.bytes.Move.{Move}
+use Rattle.cert_scan.specs.declared.bytes.ScanMove.{ScanMove}
 use Rattle.cert_scan.specs.declared.bytes.Position.TheVariants.{Number}
 use Rattle.cert_scan.specs.declared.places.Place.{Place}
 use Rattle.cert_scan.specs.declared.stages.Shape.{Shape}
@@ -45,7 +45,7 @@ number_run old bytes at value behind place next before is goes =
     (sym (quiet_gives whole 32 (Number next None) goes)) (sym (quiet_step whole 32 (Number next None) goes)) refl)
 
 -- any number, with what is made of it
-pub number_takes : (old new : Scan) (bytes : List ℕ) (at value : ℕ) (last : Bool) (behind : ℕ) (place : Place) (item : Option Item) (next : Move)
+pub number_takes : (old new : Scan) (bytes : List ℕ) (at value : ℕ) (last : Bool) (behind : ℕ) (place : Place) (item : Option Item) (next : ScanMove)
     → HasRun old bytes at (put old (Number place None)) → IsNumberAt bytes at value last behind → next ≡ taken_by old.shape place value last
     → item ≡ (sifted old next).item → new ≡ moved old next → Takes old bytes behind item new
 number_takes old new bytes at value last behind place item next before is taken gives after =
@@ -61,7 +61,7 @@ pub number_gives : (old new : Scan) (bytes : List ℕ) (at value behind : ℕ) (
     → IsNumberAt bytes at value false behind → taken_by old.shape place value false ≡ move (Number next None) (Some item)
     → repeats_by old.shape.version old.so_far (Some item) ≡ false → new ≡ with_item (put old (Number next None)) item → Runs old bytes behind (Some item) new
 number_gives old new bytes at value behind place next item before is goes quiet after =
-    let given : Move = move (Number next None) (Some item) in
+    let given : ScanMove = move (Number next None) (Some item) in
     let kept : sifted old given ≡ given = cond-false (repeats_by old.shape.version old.so_far (Some item)) (refusal true) given quiet in
     let there : with_item (put old (Number next None)) item ≡ moved old given = λ i. record {
       shape = shape_by old.shape (sym kept i).item;
@@ -70,7 +70,7 @@ number_gives old new bytes at value behind place next item before is goes quiet 
       so_far = noted_by old.shape.version old.so_far (Some item);
     } in
     takes_run old new bytes behind (Some item)
-    (number_takes old new bytes at value false behind place (Some item) given before is (sym goes) (ap (λ (m : Move). m.item) (sym kept)) (after ∙ there)) (λ e. cc)
+    (number_takes old new bytes at value false behind place (Some item) given before is (sym goes) (ap (λ (m : ScanMove). m.item) (sym kept)) (after ∙ there)) (λ e. cc)
 
 -- what gave nothing
 pub takes_quietly : (old new : Scan) (bytes : List ℕ) (taken : ℕ) (item : Option Item) → Takes old bytes taken item new → item ≡ None → HasRun old bytes taken new

@@ -9,7 +9,7 @@ use Rattle.cert_scan.specs.Pieces.{Piece, word_piece, number_pieces, told_hubs, 
 use Rattle.cert_scan.proofs.StagesAt.{IsAt, text_shape, first_commodity, first_proved_at, number_of, IsRunOf, IsCommodity, route_at, tree_at}
 use Rattle.cert_scan.proofs.Passing.{Passes, PassAll}
 use Rattle.cert_scan.specs.declared.items.Item.{Item}
-use Rattle.cert_scan.specs.declared.bytes.Move.{Move}
+use Rattle.cert_scan.specs.declared.bytes.ScanMove.{ScanMove}
 use Rattle.cert_scan.specs.declared.bytes.Position.TheVariants.{Start, Number}
 use Rattle.cert_scan.specs.declared.places.Place.{Place}
 use Rattle.cert_scan.specs.declared.stages.Stage.{Stage}
@@ -36,7 +36,7 @@ use Rattle.cert_spec.specs.Lines.{says_proof}
 use Rattle.cert_scan.specs.declared.stages.DualAt.{DualAt}
 use Rattle.cert_scan.specs.declared.stages.Commodity.{Commodity}
 use Rattle.cert_scan.specs.declared.stages.Subject.TheVariants.{Plain, Proved}
-use Rattle.cert_scan.specs.declared.stages.Run.{Run}
+use Rattle.cert_scan.specs.declared.stages.LineRun.{LineRun}
 
 -- pieces lead to the start of a line, where this is wanted
 pub record Ends (a : Walk) (pieces : List Piece) (behind_it : grammar.Stage) : Type 0 where
@@ -125,7 +125,7 @@ ends_line sh line stage place word t rest behind_it items scan h =
     (keyword_passes (state sh line (Start stage)) (state sh line (Number place None)) word t rest items scan) (ends_numbers sh line place (t ∷ rest) behind_it h)
 
 -- a test that holds
-pub allows : (test last : Bool) (next : Move) → test ≡ true → allowed test last next ≡ next
+pub allows : (test last : Bool) (next : ScanMove) → test ≡ true → allowed test last next ≡ next
 allows test last next h = cond-true test next _ h
 
 pub is_within : (value most : ℕ) → 1 ≤ value → value ≤ most → within value most ≡ true
@@ -385,7 +385,7 @@ reads_node sh place next k ts behind_it low few taken more =
     reads_more sh place next (k + 1) ts behind_it (nat_eq (k + 1) (k + 1)) taken (eq-eqb (k + 1) (k + 1) refl) (omega arith) more
 
 -- what the last hub of a route gives, and where it leads to
-abbrev pub route_move : Shape → Commodity → ℕ → ℕ → Move
+abbrev pub route_move : Shape → Commodity → ℕ → ℕ → ScanMove
 route_move sh c k m = whole_by true (Some (route_item c.from c.to k m)) (stage_after_route sh.n c)
 
 pub reads_route : (sh : Shape) (c : Commodity) (k m : ℕ) → sh.n ≤ most_nodes → IsCommodity sh.n c → k < sh.n → m < sh.n
@@ -415,7 +415,7 @@ pub reads_whole_cut : (n all before : ℕ) → IsSize n → before < all → all
     → Reads (first_shape n) (CutNumber all before) ((before + 1, Some (cut_item (before + 1) 1 true)) ∷ [])
     (grammar.want_dual (text_shape (first_shape n)) all before 0 None)
 reads_whole_cut n all before size low few =
-    let dual : ℕ → Move = λ x. whole_by true (Some (cut_item (before + 1) 1 true)) (first_dual_of all x) in
+    let dual : ℕ → ScanMove = λ x. whole_by true (Some (cut_item (before + 1) 1 true)) (first_dual_of all x) in
     last_number (first_shape n) (CutNumber all before) (before + 1) (Some (cut_item (before + 1) 1 true)) (first_dual_of all before)
     (grammar.want_dual (text_shape (first_shape n)) all before 0 None) (omega arith)
     (allows (nat_eq (before + 1) (before + 1) && nat_le (before + 1) most_cuts) true (dual (before + 1 - 1)) (cut_fits all before low few)
@@ -431,7 +431,7 @@ pub reads_cut_part : (sh : Shape) (all before part : ℕ) → IsSize sh.n → be
     (grammar.want_dual (text_shape sh) all before 0 None)
 reads_cut_part sh all before part size low few some most number_taken part_taken =
     let behind_it = grammar.want_dual (text_shape sh) all before 0 None in
-    let dual : ℕ → Move = λ x. whole_by true (Some (cut_item (before + 1) part true)) (first_dual_of all x) in
+    let dual : ℕ → ScanMove = λ x. whole_by true (Some (cut_item (before + 1) part true)) (first_dual_of all x) in
     let test = nat_eq (before + 1) (before + 1) && nat_le (before + 1) most_cuts in
     reads_more sh (CutNumber all before) (CutPart all (before + 1)) (before + 1) ((part, Some (cut_item (before + 1) part true)) ∷ []) behind_it test (ap (allowed test false) number_taken)
     (cut_fits all before low few) (omega arith)
@@ -441,7 +441,7 @@ reads_cut_part sh all before part size low few some most number_taken part_taken
     (first_dual_at sh all before size))
 
 -- the price of a run
-abbrev pub told_price : Run → ℕ → Bool → ℕ × Option Item
+abbrev pub told_price : LineRun → ℕ → Bool → ℕ × Option Item
 told_price run a last = (a, Some (dual_item run.first.commodity.from run.first.commodity.to run.length a last))
 
 reads_price : (sh : Shape) (subject : Subject) (a : ℕ) (u : List (ℕ × ℕ)) (high : ℕ) (behind_it : grammar.Stage) → sh.n ≤ most_nodes
@@ -473,7 +473,7 @@ reads_proved sh d a u high behind_it few c at short h =
     (reads_node sh (ProvedTo d) (DualPrice (Proved d)) d.commodity.to (price ∷ told_values u) behind_it c.to few refl
     (reads_price sh (Proved d) a u high behind_it few at short h))
 
-pub reads_run : (sh : Shape) (run : Run) (a : ℕ) (u : List (ℕ × ℕ)) (high : ℕ) (behind_it : grammar.Stage) → sh.n ≤ most_nodes → IsCommodity sh.n run.first.commodity
+pub reads_run : (sh : Shape) (run : LineRun) (a : ℕ) (u : List (ℕ × ℕ)) (high : ℕ) (behind_it : grammar.Stage) → sh.n ≤ most_nodes → IsCommodity sh.n run.first.commodity
     → 2 ≤ run.length → IsRunOf sh run → IsAt sh (stage_after_subject sh.n (Plain run)) behind_it → a < amount_limit sh.version
     → Climbs (is_value sh) node_of 0 u high
     → Reads sh (RunFrom run.first)
@@ -489,7 +489,7 @@ reads_run sh run a u high behind_it few c several is at short h =
     (reads_price sh (Plain run) a u high behind_it few at short h)))
 
 -- what a branch gives, and where it leads to
-abbrev pub branch_move : TreeAt → ℕ → Move
+abbrev pub branch_move : TreeAt → ℕ → ScanMove
 branch_move t k = whole_by true (Some (branch_item k)) (stage_after_tree (t.places + 1) (t.left - 1))
 
 pub reads_branch : (sh : Shape) (t : TreeAt) (k : ℕ) → sh.n ≤ most_nodes → k < sh.n → t.places + 1 ≤ t.left - 1
@@ -510,7 +510,7 @@ reads_leaf sh t denom w high some few room h =
     (reads_weights sh t 0 w high behind_it at h)
 
 -- what the last node of a commodity that is blocked gives, and where it leads to
-abbrev pub block_move : TreeAt → ℕ → ℕ → Move
+abbrev pub block_move : TreeAt → ℕ → ℕ → ScanMove
 block_move t i j = whole_by true (Some (block_item i j)) (stage_after_filled t)
 
 pub reads_block : (sh : Shape) (t : TreeAt) (i j : ℕ) → sh.n ≤ most_nodes → i < sh.n → j < sh.n → may_fill t ≡ true

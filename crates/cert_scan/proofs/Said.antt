@@ -39,7 +39,7 @@ use Rattle.cert_scan.specs.declared.places.Place.TheVariants.{VersionNumber, Nod
 use Rattle.cert_scan.specs.declared.stages.Commodity.{Commodity}
 use Rattle.cert_scan.specs.declared.stages.MarkAt.{MarkAt}
 use Rattle.cert_scan.specs.declared.stages.WaysAt.{WaysAt}
-use Rattle.cert_scan.specs.declared.stages.Run.{Run}
+use Rattle.cert_scan.specs.declared.stages.LineRun.{LineRun}
 use Rattle.cert_scan.specs.declared.stages.Stage.{Stage}
 
 pub hubs_wanted : (sh : Shape) (hubs : List ℕ) (high : ℕ) → 1 ≤ length hubs → Climbs (is_hub sh.n) (λ k. k) 0 hubs high
@@ -460,7 +460,7 @@ run_behind : (sh : Shape) (d : DualAt) (ns : List ℕ) → OfLater sh → IsComm
 run_behind sh d [] later c h = absurd (false≢true h)
 run_behind sh d (v ∷ ns) later c h =
     let test = nat_le 2 v && nat_le (d.commodity.to + v) sh.n in
-    let run : Run = record { first = d; length = v } in
+    let run : LineRun = record { first = d; length = v } in
     let a = more_takes sh (RunLength d) (DualPrice (Plain run)) v ns test (λ last. refl) h in
     let k = and_parts (nat_le 2 v) (nat_le (d.commodity.to + v) sh.n) a.0 in
     let several = leb-true 2 v k.0 in

@@ -6,7 +6,7 @@ use Rattle.cert_scan.specs.Moves.{move, refusal, moved_by}
 use Rattle.cert_scan.specs.Scans.{shape_by, line_by, sifted, moved, given_by, stepped, scanned, given_all}
 use Rattle.cert_scan.specs.Repeats.{DualSoFar, noted_by, repeats_by}
 use Rattle.cert_scan.proofs.Repeated.{noted_none, none_repeats}
-use Rattle.cert_scan.specs.declared.bytes.Move.{Move}
+use Rattle.cert_scan.specs.declared.bytes.ScanMove.{ScanMove}
 use Rattle.cert_scan.specs.declared.bytes.Position.{Position}
 use Rattle.cert_scan.specs.declared.stages.Shape.{Shape}
 use Rattle.cert_scan.specs.declared.scanner.Scan.{Scan}
@@ -48,7 +48,7 @@ pub quiet_step : (s : Scan) (byte : ℕ) (position : Position) → moved_by s.sh
 quiet_step s byte position e = ap (moved s) e ∙ moved_quiet s position
 
 pub quiet_gives : (s : Scan) (byte : ℕ) (position : Position) → moved_by s.shape s.position byte ≡ move position None → given_by s byte ≡ None
-quiet_gives s byte position e = ap (λ m. (sifted s m).item) e ∙ ap (λ (m : Move). m.item) (sifted_quiet s position)
+quiet_gives s byte position e = ap (λ m. (sifted s m).item) e ∙ ap (λ (m : ScanMove). m.item) (sifted_quiet s position)
 
 -- and behind it others
 pub quiet_scanned : (s end : Scan) (byte : ℕ) (position : Position) (bytes : List ℕ) → moved_by s.shape s.position byte ≡ move position None

@@ -9,7 +9,7 @@ use Rattle.cert_scan.specs.Repeats.{DualSoFar, noted_by, repeats_by}
 use Rattle.cert_scan.proofs.Goes.{Walk, walk_of, given_by, stepped, scanned, given_all}
 use Rattle.cert_scan.proofs.Repeated.{noted_all, shape_all, shape_all-append, repeats_in, repeats_in-append, noted_one, repeats_one, shape_one}
 use Rattle.cert_scan.specs.declared.items.Item.{Item}
-use Rattle.cert_scan.specs.declared.bytes.Move.{Move}
+use Rattle.cert_scan.specs.declared.bytes.ScanMove.{ScanMove}
 use Rattle.cert_scan.specs.declared.scanner.Scan.{Scan}
 
 -- the shape of a walk is what its items tell
@@ -36,7 +36,7 @@ quiet_front a so_far xs ys e =
 pub given_same : (s : Scan) (bytes : List ℕ) → repeats_in s.shape s.so_far (given_all (walk_of s) bytes) ≡ false → scan.given_all s bytes ≡ given_all (walk_of s) bytes
 given_same s [] e = refl
 given_same s (byte ∷ bytes) e =
-    let next : Move = moved_by s.shape s.position byte in
+    let next : ScanMove = moved_by s.shape s.position byte in
     let item : Option Item = (moved_by s.shape s.position byte).item in
     let rest = given_all (stepped (walk_of s) byte) bytes in
     let split = neither (repeats_in s.shape s.so_far (option_to_list item))

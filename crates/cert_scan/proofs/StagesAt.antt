@@ -11,7 +11,7 @@ use Rattle.cert_spec.proofs.Leads.{after_route-all, after_route-more, after_cut-
 use Rattle.cert_scan.specs.Versions.{version_number}
 use Rattle.cert_scan.specs.Moves.{commodity_by, next_commodity_of, route_or_cuts, stage_after_route, stage_after_cuts, stage_after_cut, dual_or_cut, stage_after_dual, alone, subject_run, stage_after_subject, first_proved_of, proved_or_cut, stage_after_proof, stage_after_tree}
 use Rattle.cert_scan.specs.declared.stages.DualAt.{DualAt}
-use Rattle.cert_scan.specs.declared.stages.Run.{Run}
+use Rattle.cert_scan.specs.declared.stages.LineRun.{LineRun}
 use Rattle.cert_scan.specs.declared.stages.Subject.{Subject}
 use Rattle.cert_scan.specs.declared.stages.Subject.TheVariants.{Plain, Proved}
 use Rattle.cert_scan.specs.declared.stages.Shape.{Shape}
@@ -71,13 +71,13 @@ commodity_named n c h =
     λ i. (first i, last i)
 
 -- the run is of commodities of one origin, and of one alone in the first version
-pub record IsRunOf (sh : Shape) (run : Run) : Type 0 where
+pub record IsRunOf (sh : Shape) (run : LineRun) : Type 0 where
   pub some : 1 ≤ run.length
   pub within : run.first.commodity.to + run.length ≤ sh.n
   pub first : version_number sh.version ≡ 1 → run.length ≡ 1
 
 -- in the words of the grammar
-pub run_of : (sh : Shape) (run : Run) → IsCommodity sh.n run.first.commodity → IsRunOf sh run
+pub run_of : (sh : Shape) (run : LineRun) → IsCommodity sh.n run.first.commodity → IsRunOf sh run
     → grammar.IsRun (text_shape sh) (number_of sh.n run.first.commodity) run.length
 run_of sh run c h =
     let column : number_of sh.n run.first.commodity % sh.n ≡ run.first.commodity.to = mod-mul-add run.first.commodity.from sh.n run.first.commodity.to c.to in
@@ -152,7 +152,7 @@ dual_next sh d length None dual low h =
     let cut = cut_at sh d.all d.before low in
     record { is = cut.is ∙ ap loose (sym (after_dual-all (text_shape sh) d.all d.before (number_of sh.n d.commodity + length) dual h)); names = cut.names }
 
-pub dual_at : (sh : Shape) (run : Run) (dual : Option Prices) → run.first.before < run.first.all → IsCommodity sh.n run.first.commodity → IsRunOf sh run
+pub dual_at : (sh : Shape) (run : LineRun) (dual : Option Prices) → run.first.before < run.first.all → IsCommodity sh.n run.first.commodity → IsRunOf sh run
     → IsAt sh (stage_after_dual sh.n run)
     (grammar.after_dual (text_shape sh) run.first.all run.first.before (number_of sh.n run.first.commodity + run.length) dual)
 dual_at sh run dual low c h =

@@ -4,7 +4,7 @@ use Rattle.std.proofs.lemmas.Bool.{false≢true, and_parts, leb-true, ltb-true}
 use Rattle.std.proofs.lemmas.Option.{none-some}
 use Rattle.cert_scan.specs.Moves.{taken_by, allowed, more_by, open_by, within, follows, keyword_of}
 use Rattle.cert_scan.specs.declared.items.Item.{Item}
-use Rattle.cert_scan.specs.declared.bytes.Move.{Move}
+use Rattle.cert_scan.specs.declared.bytes.ScanMove.{ScanMove}
 use Rattle.cert_scan.specs.declared.bytes.Position.{Position}
 use Rattle.cert_scan.specs.declared.bytes.Position.TheVariants.{Start, Number}
 use Rattle.cert_scan.specs.declared.places.Place.{Place}
@@ -65,33 +65,33 @@ led_takes sh (Some first) (n ∷ m ∷ ns) place v e h = led_takes sh (place_in 
 pub more_takes : (sh : Shape) (place next : Place) (v : ℕ) (ns : List ℕ) (test : Bool)
     → ((last : Bool) → taken_by sh place v last ≡ allowed test last (more_by last next)) → takes sh (Some place) (v ∷ ns) ≡ true
     → (test ≡ true) × (takes sh (Some next) ns ≡ true)
-more_takes sh place next v [] true e h = absurd (false≢true (sym (ap (λ (m : Move). begins m.position) (e true)) ∙ h))
-more_takes sh place next v [] false e h = absurd (false≢true (sym (ap (λ (m : Move). begins m.position) (e true)) ∙ h))
-more_takes sh place next v (w ∷ rest) true e h = (refl, sym (ap (λ (m : Move). takes sh (place_in m.position) (w ∷ rest)) (e false)) ∙ h)
+more_takes sh place next v [] true e h = absurd (false≢true (sym (ap (λ (m : ScanMove). begins m.position) (e true)) ∙ h))
+more_takes sh place next v [] false e h = absurd (false≢true (sym (ap (λ (m : ScanMove). begins m.position) (e true)) ∙ h))
+more_takes sh place next v (w ∷ rest) true e h = (refl, sym (ap (λ (m : ScanMove). takes sh (place_in m.position) (w ∷ rest)) (e false)) ∙ h)
 more_takes sh place next v (w ∷ rest) false e h =
-    absurd (false≢true (sym (ap (λ (m : Move). takes sh (place_in m.position) (w ∷ rest)) (e false)) ∙ h))
+    absurd (false≢true (sym (ap (λ (m : ScanMove). takes sh (place_in m.position) (w ∷ rest)) (e false)) ∙ h))
 
 -- behind which no other number stands
-pub end_takes : (sh : Shape) (place : Place) (v : ℕ) (ns : List ℕ) (test : Bool) (next : Bool → Move)
+pub end_takes : (sh : Shape) (place : Place) (v : ℕ) (ns : List ℕ) (test : Bool) (next : Bool → ScanMove)
     → ((last : Bool) → taken_by sh place v last ≡ allowed test last (next last)) → place_in (next false).position ≡ None
     → takes sh (Some place) (v ∷ ns) ≡ true → (test ≡ true) × (ns ≡ [])
 end_takes sh place v [] true next e none h = (refl, refl)
-end_takes sh place v [] false next e none h = absurd (false≢true (sym (ap (λ (m : Move). begins m.position) (e true)) ∙ h))
+end_takes sh place v [] false next e none h = absurd (false≢true (sym (ap (λ (m : ScanMove). begins m.position) (e true)) ∙ h))
 end_takes sh place v (w ∷ rest) true next e none h =
-    absurd (false≢true (sym (ap (λ (m : Move). takes sh (place_in m.position) (w ∷ rest)) (e false) ∙ ap (λ o. takes sh o (w ∷ rest)) none) ∙ h))
+    absurd (false≢true (sym (ap (λ (m : ScanMove). takes sh (place_in m.position) (w ∷ rest)) (e false) ∙ ap (λ o. takes sh o (w ∷ rest)) none) ∙ h))
 end_takes sh place v (w ∷ rest) false next e none h =
-    absurd (false≢true (sym (ap (λ (m : Move). takes sh (place_in m.position) (w ∷ rest)) (e false)) ∙ h))
+    absurd (false≢true (sym (ap (λ (m : ScanMove). takes sh (place_in m.position) (w ∷ rest)) (e false)) ∙ h))
 
 -- behind which the line may end, or go on
 pub open_takes : (sh : Shape) (place next : Place) (v : ℕ) (ns : List ℕ) (test : Bool) (item : Bool → Item) (stage : Stage)
     → ((last : Bool) → taken_by sh place v last ≡ allowed test last (open_by last (item last) next stage)) → takes sh (Some place) (v ∷ ns) ≡ true
     → (test ≡ true) × ((ns ≡ []) ⊎ (takes sh (Some next) ns ≡ true))
 open_takes sh place next v [] true item stage e h = (refl, inl refl)
-open_takes sh place next v [] false item stage e h = absurd (false≢true (sym (ap (λ (m : Move). begins m.position) (e true)) ∙ h))
+open_takes sh place next v [] false item stage e h = absurd (false≢true (sym (ap (λ (m : ScanMove). begins m.position) (e true)) ∙ h))
 open_takes sh place next v (w ∷ rest) true item stage e h =
-    (refl, inr (sym (ap (λ (m : Move). takes sh (place_in m.position) (w ∷ rest)) (e false)) ∙ h))
+    (refl, inr (sym (ap (λ (m : ScanMove). takes sh (place_in m.position) (w ∷ rest)) (e false)) ∙ h))
 open_takes sh place next v (w ∷ rest) false item stage e h =
-    absurd (false≢true (sym (ap (λ (m : Move). takes sh (place_in m.position) (w ∷ rest)) (e false)) ∙ h))
+    absurd (false≢true (sym (ap (λ (m : ScanMove). takes sh (place_in m.position) (w ∷ rest)) (e false)) ∙ h))
 
 -- the version is a later one
 abbrev pub OfLater : Shape → Type 0

@@ -31,7 +31,7 @@ use Rattle.cert_scan.proofs.Accepts.{accepts}
 use Rattle.cert_scan.proofs.Here.{begun_none, Here, here_begun, Whole, Goes_on, AfterAt, After}
 use Rattle.cert_scan.proofs.OneByte.{moves}
 use Rattle.cert_scan.specs.declared.items.Item.{Item}
-use Rattle.cert_scan.specs.declared.bytes.Move.{Move}
+use Rattle.cert_scan.specs.declared.bytes.ScanMove.{ScanMove}
 use Rattle.cert_scan.specs.declared.bytes.Position.{Position}
 use Rattle.cert_scan.specs.declared.bytes.Position.TheVariants.{Start, Failed}
 use Rattle.cert_scan.specs.declared.items.Version.{Version as TextVersion}
@@ -259,7 +259,7 @@ none_empty : (sofar : List ℕ) (byte : ℕ) → sofar ++ byte ∷ [] ≢ []
 none_empty [] byte e = cc
 none_empty (b ∷ bs) byte e = cc
 
-has_failed : (start : Shape) (held : DualSoFar) (stage : Stage) (sh : Shape) (so_far : DualSoFar) (position : Position) (sofar : List ℕ) (more : List Item) (byte : ℕ) (next : Move)
+has_failed : (start : Shape) (held : DualSoFar) (stage : Stage) (sh : Shape) (so_far : DualSoFar) (position : Position) (sofar : List ℕ) (more : List Item) (byte : ℕ) (next : ScanMove)
     → NamesNodes start stage → IsStage (stage_at start stage) → InLine start held stage sh so_far position sofar more → moved_by start position byte ≡ next
     → next.position ≡ Failed → (byte ≡ 10) ⊎ (stage ≡ Nothing) → HasFailed (wanted_at start held stage) stage (sofar ++ byte ∷ [])
 has_failed start held stage sh so_far position sofar more byte next names s now e failed (inl feed) = inl (record {
@@ -280,7 +280,7 @@ busy_next stage position h = h
 step_is : (start : Shape) (position : Position) (byte : ℕ) (item : Option Item) (next : Position) → moved_by start position byte ≡ record { position = next; item = item }
     → ((l : ℕ) → line_by l next ≡ l) → shape_by start item ≡ start → (l : ℕ) → stepped (state start l position) byte ≡ state start l next
 step_is start position byte item next e line same l =
-    ap (λ (m : Move). state (shape_by start m.item) (line_by l m.position) m.position) e ∙ (λ i. state (same i) (line l i) next)
+    ap (λ (m : ScanMove). state (shape_by start m.item) (line_by l m.position) m.position) e ∙ (λ i. state (same i) (line l i) next)
 
 -- what is given of a line that goes on
 more_begun : {bytes : List ℕ} {given : List Item} {sh : Shape} {line : ℕ} {position : Position} {so_far : DualSoFar} (byte : ℕ) (item : Option Item) (next : Position)
@@ -392,12 +392,12 @@ abbrev scan_at : Shape → ℕ → Position → DualSoFar → Scan
 scan_at sh line position so_far = record { shape = sh; line = line; position = position; so_far = so_far }
 
 -- what a move leaves
-abbrev Behind : List ℕ → List Item → Shape → ℕ → Position → DualSoFar → ℕ → Option Item → Move → Type 0
+abbrev Behind : List ℕ → List Item → Shape → ℕ → Position → DualSoFar → ℕ → Option Item → ScanMove → Type 0
 Behind bytes given sh line position so_far byte item kept =
     Tracks (bytes ++ byte ∷ []) (given ++ option_to_list kept.item) (shape_by sh kept.item) (line_by line kept.position) kept.position (noted_by sh.version so_far item)
 
 -- one byte more, at any position
-step_at : {bytes : List ℕ} {given : List Item} (sh : Shape) (line : ℕ) (position : Position) (so_far : DualSoFar) (byte : ℕ) (next : Move)
+step_at : {bytes : List ℕ} {given : List Item} (sh : Shape) (line : ℕ) (position : Position) (so_far : DualSoFar) (byte : ℕ) (next : ScanMove)
     (h : Tracks bytes given sh line position so_far) → (position ≡ Failed → ⊥) → InLine h.shape h.held h.stage sh so_far position h.sofar h.more → moved_by sh position byte ≡ next
     → Behind bytes given sh line position so_far byte next.item (scan.sifted (scan_at sh line position so_far) next)
 step_at {bytes = bytes} {given = given} sh line position so_far byte next h no_failure now e =

@@ -9,7 +9,7 @@ use Rattle.cert_scan.specs.Repeats.{ends_dual}
 use Rattle.cert_scan.proofs.Takes.{begins, Within, is_in}
 use Rattle.cert_scan.specs.declared.items.Item.{Item}
 use Rattle.cert_scan.specs.declared.items.Item.TheVariants.{Hub, Cut, CoreHub, Dual, DualPair, Proof, ProofPair, Leaf, LeafPair}
-use Rattle.cert_scan.specs.declared.bytes.Move.{Move}
+use Rattle.cert_scan.specs.declared.bytes.ScanMove.{ScanMove}
 use Rattle.cert_scan.specs.declared.bytes.Position.{Position}
 use Rattle.cert_scan.specs.declared.bytes.Position.TheVariants.{Start, Keyword, Number, Spoiled, Failed}
 use Rattle.cert_scan.specs.declared.heads.Head.{Head}
@@ -53,7 +53,7 @@ InCut (CutPart all number) head ns given = (before : ℕ) × (head ≡ CutLine a
 InCut place head ns given = Unit {0}
 
 -- the item where the line goes on at this place, which may have ended there with another one
-pub record Opens (sh : Shape) (ends : Move) (next : Place) (item : Item) : Type 0 where
+pub record Opens (sh : Shape) (ends : ScanMove) (next : Place) (item : Item) : Type 0 where
   pub may_end : begins ends.position ≡ true
   pub last : Item
   pub gives : ends.item ≡ Some last
@@ -71,7 +71,7 @@ PartBehind place v (CutNumber all before) = ⊥
 PartBehind place v next = Unit {0}
 
 -- another number stands behind a number, with an item or none
-abbrev pub NumberBehind : Shape → Place → ℕ → Move → Place → Option Item → Type 0
+abbrev pub NumberBehind : Shape → Place → ℕ → ScanMove → Place → Option Item → Type 0
 NumberBehind sh place v ends next None = PartBehind place v next
 NumberBehind sh place v ends next (Some item) = Opens sh ends next item
 
@@ -91,17 +91,17 @@ Ended (Start stage) item = Unit {0}
 Ended Failed item = item ≡ None
 Ended position item = ⊥
 
-abbrev pub GoesOn : Shape → Place → ℕ → Move → Position → Option Item → Type 0
+abbrev pub GoesOn : Shape → Place → ℕ → ScanMove → Position → Option Item → Type 0
 GoesOn sh place v ends (Number next None) item = NumberBehind sh place v ends next item
 GoesOn sh place v ends (Keyword head matched) item = MarkBehind sh place v head matched item
 GoesOn sh place v ends Spoiled item = item ≡ None
 GoesOn sh place v ends position item = ⊥
 
-pub record Turns (sh : Shape) (place : Place) (v : ℕ) (ends goes : Move) : Type 0 where
+pub record Turns (sh : Shape) (place : Place) (v : ℕ) (ends goes : ScanMove) : Type 0 where
   pub ended : Ended ends.position ends.item
   pub goes_on : GoesOn sh place v ends goes.position goes.item
 
-turns_allowed : (sh : Shape) (place : Place) (v : ℕ) (test : Bool) (ends goes : Move) → (test ≡ true → Turns sh place v ends goes)
+turns_allowed : (sh : Shape) (place : Place) (v : ℕ) (test : Bool) (ends goes : ScanMove) → (test ≡ true → Turns sh place v ends goes)
     → Turns sh place v (allowed test true ends) (allowed test false goes)
 turns_allowed sh place v true ends goes h = h refl
 turns_allowed sh place v false ends goes h = record { ended = refl; goes_on = refl }

@@ -10,7 +10,7 @@ use Rattle.cert_scan.specs.declared.items.Item.{Item}
 use Rattle.cert_scan.specs.declared.items.Item.TheVariants.{Version as version_item, Size as size_item, Cost as cost_item, Bound as bound_item, Hub as hub_item, Route as route_item, Cuts as cuts_item, Cut as cut_item, CoreHub as core_item, Dual as dual_item, DualPair as pair_item, Proof as proof_item, ProofPair as way_item, Nodes as nodes_item, Branch as branch_item, Leaf as leaf_item, LeafPair as weight_item, Empty as empty_item, Block as block_item, Count as count_item, End as end_item}
 use Rattle.cert_scan.specs.declared.stages.Commodity.{Commodity}
 use Rattle.cert_scan.specs.declared.stages.DualAt.{DualAt}
-use Rattle.cert_scan.specs.declared.stages.Run.{Run}
+use Rattle.cert_scan.specs.declared.stages.LineRun.{LineRun}
 use Rattle.cert_scan.specs.declared.stages.Subject.{Subject}
 use Rattle.cert_scan.specs.declared.stages.Subject.TheVariants.{Plain, Proved}
 use Rattle.cert_scan.specs.declared.stages.MarkAt.{MarkAt}
@@ -25,7 +25,7 @@ use Rattle.cert_scan.specs.declared.places.Place.{Place}
 use Rattle.cert_scan.specs.declared.places.Place.TheVariants.{VersionNumber, NodeCount, CandidateCount, CostAmount, BoundAmount, HubNode, RouteFrom, RouteTo, RouteFirst, RouteLast, CutCount, CutNumber, CutPart, MarkHub, DualFrom, DualTo, RunFrom, RunTo, RunLength, ProvedFrom, ProvedTo, DualPrice, ValueNode, ValueAmount, ProofTurns, ProofScale, WayFrom, WayTo, WayTaken, LineCount, BranchNode, BlockFrom, BlockTo, Denominator, WeightCut, WeightAmount}
 use Rattle.cert_scan.specs.declared.bytes.Position.{Position}
 use Rattle.cert_scan.specs.declared.bytes.Position.TheVariants.{Start, Keyword, Number, Spoiled, Failed}
-use Rattle.cert_scan.specs.declared.bytes.Move.{Move}
+use Rattle.cert_scan.specs.declared.bytes.ScanMove.{ScanMove}
 
 -- ---- from line to line
 
@@ -58,7 +58,7 @@ abbrev pub dual_or_cut : DualAt → Option Commodity → Stage
 dual_or_cut at (Some c) = Dual (record { all = at.all; before = at.before; commodity = c })
 dual_or_cut at None = stage_after_cut at.all at.before
 
-abbrev pub stage_after_dual : ℕ → Run → Stage
+abbrev pub stage_after_dual : ℕ → LineRun → Stage
 stage_after_dual n run = dual_or_cut run.first (next_commodity_of n run.length run.first.commodity)
 
 -- the first dual of the cut behind so many others is wanted
@@ -66,11 +66,11 @@ abbrev pub first_dual_of : ℕ → ℕ → Stage
 first_dual_of all before = Dual (record { all = all; before = before; commodity = commodity_by 0 0 })
 
 -- the dual of this commodity alone
-abbrev pub alone : DualAt → Run
+abbrev pub alone : DualAt → LineRun
 alone at = record { first = at; length = 1 }
 
 -- the commodities that the line of a dual is of
-abbrev pub subject_run : Subject → Run
+abbrev pub subject_run : Subject → LineRun
 subject_run (Plain run) = run
 subject_run (Proved at) = alone at
 
@@ -183,27 +183,27 @@ turned_by version head matched byte =
 
 -- ---- moves
 
-abbrev pub move : Position → Option Item → Move
+abbrev pub move : Position → Option Item → ScanMove
 move position item = record { position = position; item = item }
 
 -- the line is not as wanted, and ends here or not
-abbrev pub refusal : Bool → Move
+abbrev pub refusal : Bool → ScanMove
 refusal last = if last then move Failed None else move Spoiled None
 
 -- another number must stand behind
-abbrev pub more_by : Bool → Place → Move
+abbrev pub more_by : Bool → Place → ScanMove
 more_by last place = if last then move Failed None else move (Number place None) None
 
 -- the line must end here, and gives this
-abbrev pub whole_by : Bool → Option Item → Stage → Move
+abbrev pub whole_by : Bool → Option Item → Stage → ScanMove
 whole_by last item stage = if last then move (Start stage) item else move Spoiled None
 
 -- this is given; the line may end here, or go on
-abbrev pub open_by : Bool → Item → Place → Stage → Move
+abbrev pub open_by : Bool → Item → Place → Stage → ScanMove
 open_by last item place stage = if last then move (Start stage) (Some item) else move (Number place None) (Some item)
 
 -- the move, if the test holds
-abbrev pub allowed : Bool → Bool → Move → Move
+abbrev pub allowed : Bool → Bool → ScanMove → ScanMove
 allowed test last move = if test then move else refusal last
 
 -- a number from 1 to the most
@@ -220,12 +220,12 @@ amount_limit First = 10 ^ 30
 amount_limit version = 10 ^ 33
 
 -- the number of the cut that begins; its part stands behind it, but in the first version, where it is 1
-abbrev pub cut_by : TextVersion → ℕ → ℕ → Bool → Move
+abbrev pub cut_by : TextVersion → ℕ → ℕ → Bool → ScanMove
 cut_by First all number last = whole_by last (Some (cut_item number 1 last)) (first_dual_of all (number - 1))
 cut_by version all number last = more_by last (CutPart all number)
 
 -- the part of a cut, behind which the line ends; in the third version the word of a mark may stand behind it
-abbrev pub part_by : TextVersion → MarkAt → Bool → Move
+abbrev pub part_by : TextVersion → MarkAt → Bool → ScanMove
 part_by Third at false = move (Keyword (MarkWord at) 0) (Some (cut_item at.number at.part false))
 part_by version at last = whole_by last (Some (cut_item at.number at.part last)) (first_dual_of at.all (at.number - 1))
 
@@ -238,7 +238,7 @@ abbrev pub is_later_way : WaysAt → ℕ → ℕ → Bool
 is_later_way at from to = nat_lt at.from from || (nat_eq at.from from && nat_lt at.to to)
 
 -- the number at a place of a text of this shape, and behind it the line's end or a space
-abbrev pub taken_by : Shape → Place → ℕ → Bool → Move
+abbrev pub taken_by : Shape → Place → ℕ → Bool → ScanMove
 taken_by s VersionNumber value last =
     allowed (is_version value) last (whole_by last (Some (version_item (version_of value))) Size)
 taken_by s NodeCount value last = allowed (within value most_nodes) last (more_by last (CandidateCount value))
@@ -318,55 +318,55 @@ taken_by s (WeightAmount at number) value last =
 -- ---- bytes
 
 -- a byte that is not as wanted
-abbrev pub spoiled_by : ℕ → Move
+abbrev pub spoiled_by : ℕ → ScanMove
 spoiled_by byte = refusal (nat_eq byte 10)
 
 -- the line's first number begins, if it has one
-abbrev pub first_number_by : Option Place → Move
+abbrev pub first_number_by : Option Place → ScanMove
 first_number_by (Some place) = move (Number place None) None
 first_number_by None = move Spoiled None
 
 -- a line of the tree that fills a place ends behind its keyword, and gives this
-abbrev pub bare_filled_by : TreeAt → Item → Move
+abbrev pub bare_filled_by : TreeAt → Item → ScanMove
 bare_filled_by at item = allowed (may_fill at) true (move (Start (stage_after_filled at)) (Some item))
 
 -- a line with no number ends behind its keyword
-abbrev pub bare_by : Head → Move
+abbrev pub bare_by : Head → ScanMove
 bare_by (EmptyLine at) = bare_filled_by at empty_item
 bare_by (CountLine at) = bare_filled_by at count_item
 bare_by EndLine = move (Start Nothing) (Some end_item)
 bare_by head = refusal true
 
 -- a byte behind the whole first word
-abbrev pub behind_keyword_by : Head → ℕ → Move
+abbrev pub behind_keyword_by : Head → ℕ → ScanMove
 behind_keyword_by head byte =
     if nat_eq byte 32 then first_number_by (first_place_of head)
     else (if nat_eq byte 10 then bare_by head else move Spoiled None)
 
 -- a byte with which the first word of a line does not go on, where so many of its letters have come
-abbrev pub unmatched_by : Head → ℕ → ℕ → Move
+abbrev pub unmatched_by : Head → ℕ → ℕ → ScanMove
 unmatched_by head matched byte =
     if nat_lt matched (length (keyword_of head)) then spoiled_by byte else behind_keyword_by head byte
 
 -- it may make the line another one
-abbrev pub turned_or : Option Head → Head → ℕ → ℕ → Move
+abbrev pub turned_or : Option Head → Head → ℕ → ℕ → ScanMove
 turned_or (Some other) head matched byte = move (Keyword other (matched + 1)) None
 turned_or None head matched byte = unmatched_by head matched byte
 
 -- a byte where so many of the first word have come
-abbrev pub keyword_by : TextVersion → Head → ℕ → ℕ → Move
+abbrev pub keyword_by : TextVersion → Head → ℕ → ℕ → ScanMove
 keyword_by version head matched byte =
     if nat_lt matched (length (keyword_of head)) && nat_eq byte (slice_index (keyword_of head) matched)
     then move (Keyword head (matched + 1)) None
     else turned_or (turned_by version head matched byte) head matched byte
 
 -- the first byte of a line that is to be this
-abbrev pub begun_as : TextVersion → Option Head → ℕ → Move
+abbrev pub begun_as : TextVersion → Option Head → ℕ → ScanMove
 begun_as version (Some head) byte = keyword_by version head 0 byte
 begun_as version None byte = spoiled_by byte
 
 -- the first byte of a line
-abbrev pub begun_by : TextVersion → Stage → ℕ → Move
+abbrev pub begun_by : TextVersion → Stage → ℕ → ScanMove
 begun_by version Nothing byte = refusal true
 begun_by version stage byte = begun_as version (head_at version stage byte) byte
 
@@ -380,24 +380,24 @@ with_digit_of None digit = Some digit
 with_digit_of (Some value) digit = if nat_le 1 value && nat_lt value nearly_longest then Some (value * 10 + digit) else None
 
 -- the line goes on with the number that is spelled
-abbrev pub spelled_by : Place → Option ℕ → Move
+abbrev pub spelled_by : Place → Option ℕ → ScanMove
 spelled_by place (Some value) = move (Number place (Some value)) None
 spelled_by place None = move Spoiled None
 
 -- a byte behind the whole number at a place
-abbrev pub behind_number_by : Shape → Place → Option ℕ → ℕ → Move
+abbrev pub behind_number_by : Shape → Place → Option ℕ → ℕ → ScanMove
 behind_number_by s place None byte = spoiled_by byte
 behind_number_by s place (Some value) byte =
     if nat_eq byte 10 then taken_by s place value true
     else (if nat_eq byte 32 then taken_by s place value false else move Spoiled None)
 
 -- a byte of a number, or behind it
-abbrev pub number_by : Shape → Place → Option ℕ → ℕ → Move
+abbrev pub number_by : Shape → Place → Option ℕ → ℕ → ScanMove
 number_by s place value byte =
     if nat_le 48 byte && nat_le byte 57 then spelled_by place (with_digit_of value (byte - 48)) else behind_number_by s place value byte
 
 -- a byte of a text of this shape
-abbrev pub moved_by : Shape → Position → ℕ → Move
+abbrev pub moved_by : Shape → Position → ℕ → ScanMove
 moved_by s (Start stage) byte = begun_by s.version stage byte
 moved_by s (Keyword head matched) byte = keyword_by s.version head matched byte
 moved_by s (Number place value) byte = number_by s place value byte

@@ -9,7 +9,7 @@ use Rattle.cert_scan.specs.declared.items.Fault.TheVariants.{BadLine, Ended}
 use Rattle.cert_scan.specs.declared.stages.Stage.TheVariants.{Version, Nothing}
 use Rattle.cert_scan.specs.declared.items.Version.TheVariants.{First}
 use Rattle.cert_scan.specs.declared.stages.Shape.{Shape}
-use Rattle.cert_scan.specs.declared.bytes.Move.{Move}
+use Rattle.cert_scan.specs.declared.bytes.ScanMove.{ScanMove}
 use Rattle.cert_scan.specs.declared.bytes.Position.{Position}
 use Rattle.cert_scan.specs.declared.bytes.Position.TheVariants.{Start, Failed}
 use Rattle.cert_scan.specs.declared.scanner.Scan.{Scan}
@@ -34,7 +34,7 @@ line_by line (Start stage) = if nat_lt line 18446744073709551615 then line + 1 e
 line_by line position = line
 
 -- the move, but that a line is not as wanted that ends with a dual which repeats the one before it
-abbrev pub sifted : Scan → Move → Move
+abbrev pub sifted : Scan → ScanMove → ScanMove
 sifted scan next = if repeats_by scan.shape.version scan.so_far next.item then refusal true else next
 
 -- the scan at another position
@@ -51,7 +51,7 @@ with_item scan item = record {
 }
 
 -- the scan behind a move
-abbrev pub moved : Scan → Move → Scan
+abbrev pub moved : Scan → ScanMove → Scan
 moved scan next =
     let kept = sifted scan next in
     record {

@@ -40,7 +40,7 @@ pub(crate) enum Position {
 
 // Where a byte leads to, and what it gives.
 #[derive(Clone, Copy)]
-pub(crate) struct Move {
+pub(crate) struct ScanMove {
     pub position: Position,
     pub item: Option<Item>,
 }
@@ -49,7 +49,7 @@ pub(crate) struct Move {
 const NEARLY_LONGEST: u128 = 100_000_000_000_000_000_000_000_000_000_000;
 
 // What a byte of a text of this shape makes of a position.
-pub(crate) fn after_byte(shape: Shape, position: Position, byte: u8) -> Move
+pub(crate) fn after_byte(shape: Shape, position: Position, byte: u8) -> ScanMove
     ensures { result ≡ moved_by shape position byte }
 {
     match position {
@@ -61,20 +61,20 @@ pub(crate) fn after_byte(shape: Shape, position: Position, byte: u8) -> Move
     }
 }
 
-fn fail() -> Move
+fn fail() -> ScanMove
     ensures { result ≡ refusal true }
 {
     refused(true)
 }
 
 // A byte that is not as wanted.
-fn spoil(byte: u8) -> Move
+fn spoil(byte: u8) -> ScanMove
     ensures { result ≡ spoiled_by byte }
 {
     refused(byte == b'\n')
 }
 
-fn begin(version: Version, stage: Stage, byte: u8) -> Move
+fn begin(version: Version, stage: Stage, byte: u8) -> ScanMove
     ensures { result ≡ begun_by version stage byte }
 {
     if let Stage::Nothing = stage {
@@ -86,7 +86,7 @@ fn begin(version: Version, stage: Stage, byte: u8) -> Move
     }
 }
 
-fn in_keyword(version: Version, head: Head, matched: usize, byte: u8) -> Move
+fn in_keyword(version: Version, head: Head, matched: usize, byte: u8) -> ScanMove
     ensures { result ≡ keyword_by version head matched byte }
 {
     let (word, place) = form(head);
@@ -102,16 +102,16 @@ fn in_keyword(version: Version, head: Head, matched: usize, byte: u8) -> Move
     behind_keyword(head, place, byte)
 }
 
-fn goes_on(head: Head, matched: usize) -> Move
+fn goes_on(head: Head, matched: usize) -> ScanMove
     ensures { result ≡ move (Keyword head matched) None }
 {
-    Move {
+    ScanMove {
         position: Position::Keyword(head, matched),
         item: None,
     }
 }
 
-fn behind_keyword(head: Head, place: Option<Place>, byte: u8) -> Move
+fn behind_keyword(head: Head, place: Option<Place>, byte: u8) -> ScanMove
     requires { place ≡ first_place_of head }
     ensures { result ≡ behind_keyword_by head byte }
 {
@@ -124,26 +124,26 @@ fn behind_keyword(head: Head, place: Option<Place>, byte: u8) -> Move
     refused(false)
 }
 
-fn first_number(place: Option<Place>) -> Move
+fn first_number(place: Option<Place>) -> ScanMove
     ensures { result ≡ first_number_by place }
 {
     let Some(place) = place else {
         return refused(false);
     };
-    Move {
+    ScanMove {
         position: Position::Number(place, None),
         item: None,
     }
 }
 
 // The end of a line that is only a keyword.
-fn end_bare(head: Head) -> Move
+fn end_bare(head: Head) -> ScanMove
     ensures { result ≡ bare_by head }
 {
     match head {
         Head::EmptyLine(at) => end_filled(at, Item::Empty),
         Head::CountLine(at) => end_filled(at, Item::Count),
-        Head::EndLine => Move {
+        Head::EndLine => ScanMove {
             position: Position::Start(Stage::Nothing),
             item: Some(Item::End),
         },
@@ -152,19 +152,19 @@ fn end_bare(head: Head) -> Move
 }
 
 // The end of a line that fills a place and has no number.
-fn end_filled(at: TreeAt, item: Item) -> Move
+fn end_filled(at: TreeAt, item: Item) -> ScanMove
     ensures { result ≡ bare_filled_by at item }
 {
     if !may_be_filled(at) {
         return fail();
     }
-    Move {
+    ScanMove {
         position: Position::Start(after_filled(at)),
         item: Some(item),
     }
 }
 
-fn in_number(shape: Shape, place: Place, value: Option<u128>, byte: u8) -> Move
+fn in_number(shape: Shape, place: Place, value: Option<u128>, byte: u8) -> ScanMove
     ensures { result ≡ number_by shape place value byte }
 {
     if byte < b'0' || byte > b'9' {
@@ -173,7 +173,7 @@ fn in_number(shape: Shape, place: Place, value: Option<u128>, byte: u8) -> Move
     let Some(sum) = with_digit(value, byte) else {
         return refused(false);
     };
-    Move {
+    ScanMove {
         position: Position::Number(place, Some(sum)),
         item: None,
     }
@@ -194,7 +194,7 @@ pub(crate) fn with_digit(value: Option<u128>, byte: u8) -> Option<u128>
     Some(front * 10 + digit)
 }
 
-fn behind_number(shape: Shape, place: Place, value: Option<u128>, byte: u8) -> Move
+fn behind_number(shape: Shape, place: Place, value: Option<u128>, byte: u8) -> ScanMove
     ensures { result ≡ behind_number_by shape place value byte }
 {
     let Some(number) = value else {

@@ -15,7 +15,7 @@ use crate::fronts::{DualFront, dual_ahead, duals_ahead, proof_ahead};
 use crate::items::{Item, Version};
 use crate::places::Place;
 use crate::scanner::Scan;
-use crate::stages::{DualAt, Run, Stage, Subject, WaysAt};
+use crate::stages::{DualAt, LineRun, Stage, Subject, WaysAt};
 
 impl Scan {
     // Takes what comes next where that is no pair and no way. Each start is taken apart, so that all others are spared the
@@ -57,7 +57,7 @@ impl Scan {
         let Some(front) = self.plain_ahead(at, bytes) else {
             return self.advance_all(bytes);
         };
-        let run = Run {
+        let run = LineRun {
             first: at,
             length: front.length,
         };

@@ -12,7 +12,7 @@ ghost use Rattle.cert_scan.specs.declared.places.Place.TheVariants.{
   WayTaken,
 };
 
-use crate::bytes::{Move, Position};
+use crate::bytes::{Position, ScanMove};
 use crate::heads::Head;
 use crate::items::{Item, Version};
 use crate::places::{Place, more, open, refused, whole};
@@ -27,7 +27,7 @@ pub(crate) const MOST_TAKEN: u128 = 1_000_000_000_000;
 
 // The line of a cut ends behind its part; in the third version a mark may stand behind it.
 #[inline(never)]
-pub(crate) fn end_part(version: Version, at: MarkAt, last: bool) -> Move
+pub(crate) fn end_part(version: Version, at: MarkAt, last: bool) -> ScanMove
     ensures { result ≡ part_by version at last }
 {
     let cut = Item::Cut {
@@ -36,7 +36,7 @@ pub(crate) fn end_part(version: Version, at: MarkAt, last: bool) -> Move
         last,
     };
     match (version, last) {
-        (Version::Third, false) => Move {
+        (Version::Third, false) => ScanMove {
             position: Position::Keyword(Head::MarkWord(at), 0),
             item: Some(cut),
         },
@@ -49,7 +49,13 @@ pub(crate) fn end_part(version: Version, at: MarkAt, last: bool) -> Move
 }
 
 #[inline(never)]
-pub(crate) fn take_mark_hub(shape: Shape, at: MarkAt, before: u32, value: u128, last: bool) -> Move
+pub(crate) fn take_mark_hub(
+    shape: Shape,
+    at: MarkAt,
+    before: u32,
+    value: u128,
+    last: bool,
+) -> ScanMove
     ensures { result ≡ taken_by shape (MarkHub at before) value last }
 {
     if value <= before as u128 || value > shape.n as u128 {
@@ -69,7 +75,7 @@ pub(crate) fn take_mark_hub(shape: Shape, at: MarkAt, before: u32, value: u128, 
 }
 
 #[inline(never)]
-pub(crate) fn take_turns(shape: Shape, at: DualAt, value: u128, last: bool) -> Move
+pub(crate) fn take_turns(shape: Shape, at: DualAt, value: u128, last: bool) -> ScanMove
     ensures { result ≡ taken_by shape (ProofTurns at) value last }
 {
     if value > MOST_TURNS {
@@ -79,7 +85,7 @@ pub(crate) fn take_turns(shape: Shape, at: DualAt, value: u128, last: bool) -> M
 }
 
 #[inline(never)]
-pub(crate) fn take_scale(shape: Shape, at: DualAt, turns: u32, value: u128, last: bool) -> Move
+pub(crate) fn take_scale(shape: Shape, at: DualAt, turns: u32, value: u128, last: bool) -> ScanMove
     ensures { result ≡ taken_by shape (ProofScale at turns) value last }
 {
     if value < 1 || value > MOST_SCALE {
@@ -99,7 +105,7 @@ pub(crate) fn take_scale(shape: Shape, at: DualAt, turns: u32, value: u128, last
 }
 
 #[inline(never)]
-pub(crate) fn take_way_from(shape: Shape, at: WaysAt, value: u128, last: bool) -> Move
+pub(crate) fn take_way_from(shape: Shape, at: WaysAt, value: u128, last: bool) -> ScanMove
     ensures { result ≡ taken_by shape (WayFrom at) value last }
 {
     if value < 1 || value > shape.n as u128 {
@@ -117,7 +123,7 @@ pub(crate) fn is_later(at: WaysAt, from: u32, to: u128) -> bool
 }
 
 #[inline(never)]
-pub(crate) fn take_way_to(shape: Shape, at: WaysAt, from: u32, value: u128, last: bool) -> Move
+pub(crate) fn take_way_to(shape: Shape, at: WaysAt, from: u32, value: u128, last: bool) -> ScanMove
     ensures { result ≡ taken_by shape (WayTo at from) value last }
 {
     if value < from as u128 || value > shape.n as u128 || !is_later(at, from, value) {
@@ -132,7 +138,7 @@ pub(crate) fn take_way_to(shape: Shape, at: WaysAt, from: u32, value: u128, last
 }
 
 #[inline(never)]
-pub(crate) fn take_taken(shape: Shape, at: WaysAt, value: u128, last: bool) -> Move
+pub(crate) fn take_taken(shape: Shape, at: WaysAt, value: u128, last: bool) -> ScanMove
     ensures { result ≡ taken_by shape (WayTaken at) value last }
 {
     if value < 1 || value > MOST_TAKEN {

@@ -34,13 +34,13 @@ ghost use Rattle.cert_scan.specs.declared.places.Place.TheVariants.{
   WeightAmount,
 };
 
-use crate::bytes::{Move, Position};
+use crate::bytes::{Position, ScanMove};
 use crate::items::{Item, Version};
 use crate::marks::{
     end_part, take_mark_hub, take_scale, take_taken, take_turns, take_way_from, take_way_to,
 };
 use crate::stages::{
-    Commodity, DualAt, FIRST, MarkAt, Run, Shape, Stage, Subject, TreeAt, WaysAt, after_cuts,
+    Commodity, DualAt, FIRST, LineRun, MarkAt, Shape, Stage, Subject, TreeAt, WaysAt, after_cuts,
     after_filled, after_route, after_subject, after_tree, first_dual, may_be_filled, run_of,
 };
 use hub_model::{MOST_CUTS, MOST_DENOMINATOR, MOST_NODES, MOST_TREE_LINES};
@@ -110,7 +110,7 @@ pub(crate) enum Place {
 }
 
 // The line is not as wanted, and ends here or not.
-pub(crate) fn refused(last: bool) -> Move
+pub(crate) fn refused(last: bool) -> ScanMove
     ensures { result ≡ refusal last }
 {
     let position = if last {
@@ -118,14 +118,14 @@ pub(crate) fn refused(last: bool) -> Move
     } else {
         Position::Spoiled
     };
-    Move {
+    ScanMove {
         position,
         item: None,
     }
 }
 
 // Another number must stand behind.
-pub(crate) fn more(last: bool, place: Place) -> Move
+pub(crate) fn more(last: bool, place: Place) -> ScanMove
     ensures { result ≡ more_by last place }
 {
     let position = if last {
@@ -133,23 +133,23 @@ pub(crate) fn more(last: bool, place: Place) -> Move
     } else {
         Position::Number(place, None)
     };
-    Move {
+    ScanMove {
         position,
         item: None,
     }
 }
 
 // The line must end here.
-pub(crate) fn whole(last: bool, item: Option<Item>, stage: Stage) -> Move
+pub(crate) fn whole(last: bool, item: Option<Item>, stage: Stage) -> ScanMove
     ensures { result ≡ whole_by last item stage }
 {
     if last {
-        Move {
+        ScanMove {
             position: Position::Start(stage),
             item,
         }
     } else {
-        Move {
+        ScanMove {
             position: Position::Spoiled,
             item: None,
         }
@@ -157,7 +157,7 @@ pub(crate) fn whole(last: bool, item: Option<Item>, stage: Stage) -> Move
 }
 
 // The line may end here, or go on.
-pub(crate) fn open(last: bool, item: Item, place: Place, stage: Stage) -> Move
+pub(crate) fn open(last: bool, item: Item, place: Place, stage: Stage) -> ScanMove
     ensures { result ≡ open_by last item place stage }
 {
     let position = if last {
@@ -165,14 +165,14 @@ pub(crate) fn open(last: bool, item: Item, place: Place, stage: Stage) -> Move
     } else {
         Position::Number(place, None)
     };
-    Move {
+    ScanMove {
         position,
         item: Some(item),
     }
 }
 
 // Takes the number at a place of a text of this shape; `last` says that the line ends behind it.
-pub(crate) fn take(shape: Shape, place: Place, value: u128, last: bool) -> Move
+pub(crate) fn take(shape: Shape, place: Place, value: u128, last: bool) -> ScanMove
     ensures { result ≡ taken_by shape place value last }
 {
     match place {
@@ -202,7 +202,7 @@ pub(crate) fn take(shape: Shape, place: Place, value: u128, last: bool) -> Move
         Place::MarkHub(at, before) => take_mark_hub(shape, at, before, value, last),
         Place::DualFrom(at) => take_node(at.commodity.from, Place::DualTo(at), value, last),
         Place::DualTo(at) => {
-            let alone = Run {
+            let alone = LineRun {
                 first: at,
                 length: 1,
             };
@@ -235,7 +235,7 @@ pub(crate) fn take(shape: Shape, place: Place, value: u128, last: bool) -> Move
     }
 }
 
-fn take_version(shape: Shape, value: u128, last: bool) -> Move
+fn take_version(shape: Shape, value: u128, last: bool) -> ScanMove
     ensures { result ≡ taken_by shape VersionNumber value last }
 {
     if value == 1 {
@@ -250,7 +250,7 @@ fn take_version(shape: Shape, value: u128, last: bool) -> Move
     refused(last)
 }
 
-fn take_nodes(shape: Shape, value: u128, last: bool) -> Move
+fn take_nodes(shape: Shape, value: u128, last: bool) -> ScanMove
     ensures { result ≡ taken_by shape NodeCount value last }
 {
     if value < 1 || value > MOST_NODES as u128 {
@@ -259,7 +259,7 @@ fn take_nodes(shape: Shape, value: u128, last: bool) -> Move
     more(last, Place::CandidateCount(value as u32))
 }
 
-fn take_candidates(shape: Shape, nodes: u32, value: u128, last: bool) -> Move
+fn take_candidates(shape: Shape, nodes: u32, value: u128, last: bool) -> ScanMove
     ensures { result ≡ taken_by shape (CandidateCount nodes) value last }
 {
     if value < 1 || value > nodes as u128 {
@@ -273,7 +273,7 @@ fn take_candidates(shape: Shape, nodes: u32, value: u128, last: bool) -> Move
 }
 
 // An amount that is no dual's.
-fn take_short(item: Item, stage: Stage, value: u128, last: bool) -> Move
+fn take_short(item: Item, stage: Stage, value: u128, last: bool) -> ScanMove
     ensures { result ≡ allowed (is_short value) last (whole_by last (Some item) stage) }
 {
     if value >= SHORT_LIMIT {
@@ -282,7 +282,7 @@ fn take_short(item: Item, stage: Stage, value: u128, last: bool) -> Move
     whole(last, Some(item), stage)
 }
 
-fn take_hub(shape: Shape, before: u32, value: u128, last: bool) -> Move
+fn take_hub(shape: Shape, before: u32, value: u128, last: bool) -> ScanMove
     ensures { result ≡ taken_by shape (HubNode before) value last }
 {
     if value <= before as u128 || value > shape.n as u128 {
@@ -297,7 +297,7 @@ fn take_hub(shape: Shape, before: u32, value: u128, last: bool) -> Move
 }
 
 // A number that must be that of this node.
-fn take_node(node: u32, next: Place, value: u128, last: bool) -> Move
+fn take_node(node: u32, next: Place, value: u128, last: bool) -> ScanMove
     ensures { result ≡ allowed (nat_eq value (node + 1)) last (more_by last next) }
 {
     if value != node as u128 + 1 {
@@ -306,7 +306,7 @@ fn take_node(node: u32, next: Place, value: u128, last: bool) -> Move
     more(last, next)
 }
 
-fn take_first(shape: Shape, commodity: Commodity, value: u128, last: bool) -> Move
+fn take_first(shape: Shape, commodity: Commodity, value: u128, last: bool) -> ScanMove
     ensures { result ≡ taken_by shape (RouteFirst commodity) value last }
 {
     if value < 1 || value > shape.n as u128 {
@@ -315,7 +315,7 @@ fn take_first(shape: Shape, commodity: Commodity, value: u128, last: bool) -> Mo
     more(last, Place::RouteLast(commodity, value as u32 - 1))
 }
 
-fn take_last(shape: Shape, commodity: Commodity, k: u32, value: u128, last: bool) -> Move
+fn take_last(shape: Shape, commodity: Commodity, k: u32, value: u128, last: bool) -> ScanMove
     ensures { result ≡ taken_by shape (RouteLast commodity k) value last }
 {
     if value < 1 || value > shape.n as u128 {
@@ -331,7 +331,7 @@ fn take_last(shape: Shape, commodity: Commodity, k: u32, value: u128, last: bool
     whole(last, Some(route), after_route(shape.n, commodity))
 }
 
-fn take_cut_count(shape: Shape, value: u128, last: bool) -> Move
+fn take_cut_count(shape: Shape, value: u128, last: bool) -> ScanMove
     ensures { result ≡ taken_by shape CutCount value last }
 {
     if value > MOST_CUTS as u128 {
@@ -341,7 +341,7 @@ fn take_cut_count(shape: Shape, value: u128, last: bool) -> Move
     whole(last, Some(Item::Cuts(all)), after_cuts(all))
 }
 
-fn take_cut(shape: Shape, all: u32, before: u32, value: u128, last: bool) -> Move
+fn take_cut(shape: Shape, all: u32, before: u32, value: u128, last: bool) -> ScanMove
     ensures { result ≡ taken_by shape (CutNumber all before) value last }
 {
     if value != before as u128 + 1 || value > MOST_CUTS as u128 {
@@ -351,7 +351,7 @@ fn take_cut(shape: Shape, all: u32, before: u32, value: u128, last: bool) -> Mov
 }
 
 // A cut of the first version is whole with its number, and has the part 1.
-fn begin_cut(version: Version, all: u32, number: u32, last: bool) -> Move
+fn begin_cut(version: Version, all: u32, number: u32, last: bool) -> ScanMove
     ensures { result ≡ cut_by version all number last }
 {
     match version {
@@ -371,7 +371,7 @@ fn begin_cut(version: Version, all: u32, number: u32, last: bool) -> Move
     }
 }
 
-fn take_part(shape: Shape, all: u32, number: u32, value: u128, last: bool) -> Move
+fn take_part(shape: Shape, all: u32, number: u32, value: u128, last: bool) -> ScanMove
     ensures { result ≡ taken_by shape (CutPart all number) value last }
 {
     if value < 1 || value > MOST_PART {
@@ -386,14 +386,14 @@ fn take_part(shape: Shape, all: u32, number: u32, value: u128, last: bool) -> Mo
 }
 
 // A run has more than one commodity, all of one origin.
-fn take_run_length(shape: Shape, first: DualAt, value: u128, last: bool) -> Move
+fn take_run_length(shape: Shape, first: DualAt, value: u128, last: bool) -> ScanMove
     ensures { result ≡ taken_by shape (RunLength first) value last }
 {
     let most = shape.n.saturating_sub(first.commodity.to);
     if value < 2 || value > most as u128 {
         return refused(last);
     }
-    let run = Run {
+    let run = LineRun {
         first,
         length: value as u32,
     };
@@ -410,7 +410,7 @@ fn limit_of_amounts(version: Version) -> u128
     }
 }
 
-fn take_price(shape: Shape, subject: Subject, value: u128, last: bool) -> Move
+fn take_price(shape: Shape, subject: Subject, value: u128, last: bool) -> ScanMove
     ensures { result ≡ taken_by shape (DualPrice subject) value last }
 {
     if value >= limit_of_amounts(shape.version) {
@@ -433,7 +433,7 @@ fn take_price(shape: Shape, subject: Subject, value: u128, last: bool) -> Move
     )
 }
 
-fn take_value_node(shape: Shape, subject: Subject, before: u32, value: u128, last: bool) -> Move
+fn take_value_node(shape: Shape, subject: Subject, before: u32, value: u128, last: bool) -> ScanMove
     ensures { result ≡ taken_by shape (ValueNode subject before) value last }
 {
     if value <= before as u128 || value > shape.n as u128 {
@@ -448,7 +448,7 @@ pub(crate) fn take_value(
     number: u32,
     value: u128,
     last: bool,
-) -> Move
+) -> ScanMove
     ensures { result ≡ taken_by shape (ValueAmount subject number) value last }
 {
     if value < 1 || value >= limit_of_amounts(shape.version) {
@@ -467,7 +467,7 @@ pub(crate) fn take_value(
     )
 }
 
-fn take_line_count(shape: Shape, value: u128, last: bool) -> Move
+fn take_line_count(shape: Shape, value: u128, last: bool) -> ScanMove
     ensures { result ≡ taken_by shape LineCount value last }
 {
     if value < 1 || value > MOST_TREE_LINES as u128 {
@@ -481,7 +481,7 @@ fn take_line_count(shape: Shape, value: u128, last: bool) -> Move
     )
 }
 
-fn take_branch(shape: Shape, at: TreeAt, value: u128, last: bool) -> Move
+fn take_branch(shape: Shape, at: TreeAt, value: u128, last: bool) -> ScanMove
     ensures { result ≡ taken_by shape (BranchNode at) value last }
 {
     let left = at.left.saturating_sub(1);
@@ -492,7 +492,7 @@ fn take_branch(shape: Shape, at: TreeAt, value: u128, last: bool) -> Move
     whole(last, Some(node), after_tree(at.places + 1, left))
 }
 
-fn take_block_from(shape: Shape, at: TreeAt, value: u128, last: bool) -> Move
+fn take_block_from(shape: Shape, at: TreeAt, value: u128, last: bool) -> ScanMove
     ensures { result ≡ taken_by shape (BlockFrom at) value last }
 {
     if value < 1 || value > shape.n as u128 {
@@ -501,7 +501,7 @@ fn take_block_from(shape: Shape, at: TreeAt, value: u128, last: bool) -> Move
     more(last, Place::BlockTo(at, value as u32 - 1))
 }
 
-fn take_block_to(shape: Shape, at: TreeAt, i: u32, value: u128, last: bool) -> Move
+fn take_block_to(shape: Shape, at: TreeAt, i: u32, value: u128, last: bool) -> ScanMove
     ensures { result ≡ taken_by shape (BlockTo at i) value last }
 {
     if value < 1 || value > shape.n as u128 || !may_be_filled(at) {
@@ -514,7 +514,7 @@ fn take_block_to(shape: Shape, at: TreeAt, i: u32, value: u128, last: bool) -> M
     whole(last, Some(block), after_filled(at))
 }
 
-fn take_denominator(shape: Shape, at: TreeAt, value: u128, last: bool) -> Move
+fn take_denominator(shape: Shape, at: TreeAt, value: u128, last: bool) -> ScanMove
     ensures { result ≡ taken_by shape (Denominator at) value last }
 {
     if value < 1 || value > MOST_DENOMINATOR as u128 || !may_be_filled(at) {
@@ -527,7 +527,7 @@ fn take_denominator(shape: Shape, at: TreeAt, value: u128, last: bool) -> Move
     open(last, leaf, Place::WeightCut(at, 0), after_filled(at))
 }
 
-fn take_weight_cut(shape: Shape, at: TreeAt, before: u128, value: u128, last: bool) -> Move
+fn take_weight_cut(shape: Shape, at: TreeAt, before: u128, value: u128, last: bool) -> ScanMove
     ensures { result ≡ taken_by shape (WeightCut at before) value last }
 {
     if value <= before || value >= SHORT_LIMIT {
@@ -536,7 +536,7 @@ fn take_weight_cut(shape: Shape, at: TreeAt, before: u128, value: u128, last: bo
     more(last, Place::WeightAmount(at, value))
 }
 
-fn take_weight(shape: Shape, at: TreeAt, number: u128, value: u128, last: bool) -> Move
+fn take_weight(shape: Shape, at: TreeAt, number: u128, value: u128, last: bool) -> ScanMove
     ensures { result ≡ taken_by shape (WeightAmount at number) value last }
 {
     if value < 1 || value >= SHORT_LIMIT {

@@ -30,7 +30,7 @@ ghost use Rattle.cert_scan.specs.declared.places.Place.TheVariants.{ValueNode, W
 ghost use Rattle.cert_scan.specs.declared.stages.Subject.{Subject as SubjectOf};
 ghost use Rattle.cert_scan.specs.declared.stages.WaysAt.{WaysAt as WaysAtOf};
 
-use crate::bytes::{Move, Position, after_byte};
+use crate::bytes::{Position, ScanMove, after_byte};
 use crate::digits::{SHORT, more_digits, number_at};
 use crate::heads::{form, head_of, letters_ahead};
 use crate::items::{Fault, Item, Version};
@@ -375,7 +375,7 @@ impl Scan {
 
     // In its callers, so that the position of a move is written once.
     #[inline(always)]
-    fn go(&mut self, next: Move) -> Option<Item>
+    fn go(&mut self, next: ScanMove) -> Option<Item>
         ensures given { result ≡ (sifted self.old next).item }
         ensures after { self.new ≡ moved self.old next }
     {

@@ -42,7 +42,7 @@ pub(crate) struct DualAt {
 
 // A dual is of so many commodities of one origin, from the first on.
 #[derive(Clone, Copy)]
-pub(crate) struct Run {
+pub(crate) struct LineRun {
     pub first: DualAt,
     pub length: u32,
 }
@@ -50,7 +50,7 @@ pub(crate) struct Run {
 // What the line of a dual is of: a run of a cut, or a commodity of a marked cut, whose proof stands on the next line.
 #[derive(Clone, Copy)]
 pub(crate) enum Subject {
-    Plain(Run),
+    Plain(LineRun),
     Proved(DualAt),
 }
 
@@ -166,7 +166,7 @@ pub(crate) fn first_dual(all: u32, before: u32) -> Stage
     })
 }
 
-fn after_dual(n: u32, run: Run) -> Stage
+fn after_dual(n: u32, run: LineRun) -> Stage
     ensures { result ≡ stage_after_dual n run }
 {
     let DualAt {
@@ -185,12 +185,12 @@ fn after_dual(n: u32, run: Run) -> Stage
 }
 
 // The commodities that the line of a dual is of.
-pub(crate) fn run_of(subject: Subject) -> Run
+pub(crate) fn run_of(subject: Subject) -> LineRun
     ensures { result ≡ subject_run subject }
 {
     match subject {
         Subject::Plain(run) => run,
-        Subject::Proved(first) => Run { first, length: 1 },
+        Subject::Proved(first) => LineRun { first, length: 1 },
     }
 }
 

@@ -8,7 +8,7 @@ use Rattle.frac_rows.specs.Rows.{Table}
 use Rattle.core_cuts.specs.CoreTables.{core_edges, edge_right, core_rights}
 use Rattle.core_cuts.specs.BasicRatios.{IsLeastReading}
 use Rattle.core_cuts.specs.Bodies.{table_proof}
-use Rattle.core_cuts.specs.declared.edges.Commodity.{Commodity}
+use Rattle.core_cuts.specs.declared.edges.CoreCommodity.{CoreCommodity}
 use Rattle.core_cuts.specs.Readings.{Reading, IsReading, proof_of, FoundDual, IsFound}
 
 -- what each of these ways costs by unit of flow
@@ -16,7 +16,7 @@ abbrev pub AreCosts : Problem → ℕ × ℕ → List (ℕ × ℕ) → List ℤ 
 AreCosts p c edges rights = rights ≡ map (λ e. pos (edge_right p c e)) edges
 
 -- a commodity whose routes may have any length
-pub record IsAnyLength (c : Commodity) : Type 0 where
+pub record IsAnyLength (c : CoreCommodity) : Type 0 where
   pub any_length : c.instance.now.longest ≡ None
   pub from : c.i < c.instance.now.size
   pub to : c.j < c.instance.now.size

@@ -16,7 +16,7 @@ use crate::problems::first_table;
 use crate::readings::least_reading;
 use crate::table_proofs::TableProof;
 use crate::unit_prices::UnitPrices;
-use crate::ways::Ways;
+use crate::ways::RouteWays;
 use cut_model::DualProof;
 use frac_rows::Ended;
 use hub_model::{Dual, HubSet, Instance};
@@ -84,7 +84,7 @@ fn found_at(
     ensures found { IfOk result (λ found. IfSome found (λ d. IsFound instance.now hubs.now (i, j) d)) }
     ensures none { IfOk result (λ found. found ≡ None → IsNotFound instance.now hubs.now (i, j)) }
 {
-    let ways = Ways::of(alloc, instance, i, j)?;
+    let ways = RouteWays::of(alloc, instance, i, j)?;
     match unit_dual(alloc, instance, i, j, hubs, &ways)? {
         Some(UnitDual { prices, proof }) => {
             found_by(alloc, instance, i, j, hubs, &prices, proof)
@@ -100,7 +100,7 @@ pub(crate) fn unit_dual(
     i: u32,
     j: u32,
     hubs: &[u32],
-    ways: &Ways,
+    ways: &RouteWays,
 ) -> Result<Option<UnitDual>, AllocError>
     requires from { i < instance.now.size }
     requires to { j < instance.now.size }

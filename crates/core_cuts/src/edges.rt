@@ -14,7 +14,7 @@ use std::alloc::{AllocError, Global};
 
 /// The commodity from `i` to `j`.
 #[derive(Clone, Copy)]
-pub(crate) struct Commodity<'a> {
+pub(crate) struct CoreCommodity<'a> {
     pub(crate) instance: &'a Instance,
     pub(crate) i: u32,
     pub(crate) j: u32,
@@ -61,7 +61,7 @@ fn single_cost(instance: &Instance, i: u32, j: u32, k: u32) -> u128
 
 /// What the hub edge of `k` and `m` costs by unit of flow, if it is needed: if it costs less than each of its single hubs.
 pub(crate) fn needed_right(
-    commodity: &Commodity<'_>,
+    commodity: &CoreCommodity<'_>,
     k: u32,
     m: u32,
     at_k: u128,
@@ -77,7 +77,7 @@ pub(crate) fn needed_right(
     ensures limit { IfSome result (λ right. right ≤ most_unit) }
     ensures none { let c = commodity.now in result ≡ None → is_needed c.instance.now (c.i, c.j) (k, m) ≡ false }
 {
-    let Commodity { instance, i, j } = *commodity;
+    let CoreCommodity { instance, i, j } = *commodity;
     let _ = instance.size();
     let cost = pair_cost(instance, i, j, k, m);
     if cost < at_k && cost < at_m {

@@ -9,7 +9,7 @@ ghost use Rattle.core_cuts.specs.Readings.{IsFound, IsNotFound};
 
 use crate::core_duals::{CoreDual, UnitDual, found_by, unit_dual};
 use crate::edges::edge_right;
-use crate::ways::Ways;
+use crate::ways::RouteWays;
 use hub_model::Instance;
 use std::alloc::{AllocError, Global};
 
@@ -36,7 +36,7 @@ pub(crate) fn dual_pair(
     ensures back { IfOk result (λ found. IfSome found (λ pair. IfSome pair.back (IsFound instance.now hubs.now (j, i)))) }
     ensures none { IfOk result (λ found. found ≡ None → IsNotFound instance.now hubs.now (i, j)) }
 {
-    let ways = Ways::of(alloc, instance, i, j)?;
+    let ways = RouteWays::of(alloc, instance, i, j)?;
     match unit_dual(alloc, instance, i, j, hubs, &ways)? {
         Some(unit) => pair_by(alloc, instance, i, j, hubs, &ways, unit),
         None => Ok(None),
@@ -50,7 +50,7 @@ fn pair_by(
     i: u32,
     j: u32,
     hubs: &[u32],
-    ways: &Ways,
+    ways: &RouteWays,
     unit: UnitDual,
 ) -> Result<Option<DualPair>, AllocError>
     requires from { i < instance.now.size }
@@ -78,7 +78,7 @@ fn dual_back(
     i: u32,
     j: u32,
     hubs: &[u32],
-    ways: &Ways,
+    ways: &RouteWays,
     unit: &UnitDual,
 ) -> Result<Option<CoreDual>, AllocError>
     requires from { i < instance.now.size }
@@ -92,7 +92,7 @@ fn dual_back(
     if !may_be_same(instance, i, j) {
         return Ok(None);
     }
-    let ways_back = Ways::of(alloc, instance, j, i)?;
+    let ways_back = RouteWays::of(alloc, instance, j, i)?;
     if !ways.are_same(&ways_back) {
         return Ok(None);
     }

@@ -6,20 +6,25 @@ ghost use Rattle.core_cuts.specs.CoreTables.{is_needed};
 ghost use Rattle.core_cuts.specs.Ahead.{AreCosts, AreWays, IsAnyLength};
 ghost use Rattle.core_cuts.specs.Bodies.{most_unit};
 
-use crate::edges::{Commodity, needed_right, single_costs, single_hubs, unit_costs};
+use crate::edges::{CoreCommodity, needed_right, single_costs, single_hubs, unit_costs};
 use hub_model::Instance;
 use std::alloc::{AllocError, Global};
 
 /// Ways, and what each costs by unit of flow, in 10^-6.
 #[derive(Drop)]
-pub(crate) struct Ways {
+pub(crate) struct RouteWays {
     pub(crate) edges: Vec<(u32, u32)>,
     pub(crate) rights: Vec<i64>,
 }
 
-impl Ways {
+impl RouteWays {
     /// Those of the commodity from `i` to `j`.
-    pub(crate) fn of(alloc: Global, instance: &Instance, i: u32, j: u32) -> Result<Ways, AllocError>
+    pub(crate) fn of(
+        alloc: Global,
+        instance: &Instance,
+        i: u32,
+        j: u32,
+    ) -> Result<RouteWays, AllocError>
         requires any_length { instance.now.longest ≡ None }
         requires from { i < instance.now.size }
         requires to { j < instance.now.size }
@@ -29,8 +34,8 @@ impl Ways {
         let edges = single_hubs(alloc, candidates)?;
         let costs = single_costs(alloc, instance, i, j, candidates)?;
         let rights = unit_costs(alloc, &costs, instance.flow_between(i, j))?;
-        let mut ways = Ways { edges, rights };
-        let commodity = Commodity { instance, i, j };
+        let mut ways = RouteWays { edges, rights };
+        let commodity = CoreCommodity { instance, i, j };
         for x in 0..candidates.len() {
             let later = &candidates[x + 1..];
             ways.add_needed(&commodity, candidates[x], costs[x], later, &costs[x + 1..])?;
@@ -41,7 +46,7 @@ impl Ways {
     /// Adds the needed edges of `k` and these later candidates. Each costs that much as a single hub.
     fn add_needed(
         &mut self,
-        commodity: &Commodity<'_>,
+        commodity: &CoreCommodity<'_>,
         k: u32,
         at_k: u128,
         later: &[u32],
@@ -79,7 +84,7 @@ impl Ways {
     }
 
     /// Tells whether the others are the same at the same costs.
-    pub(crate) fn are_same(&self, others: &Ways) -> bool
+    pub(crate) fn are_same(&self, others: &RouteWays) -> bool
         ensures { IsTrue result
             ↔ ((self.now.edges.items ≡ others.now.edges.items) × (self.now.rights.items ≡ others.now.rights.items)) }
     {

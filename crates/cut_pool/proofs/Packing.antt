@@ -10,17 +10,17 @@ use Rattle.hub_spec.proofs.Limits.{few_candidates}
 use Rattle.cut_model.specs.ValueRows.{ValueRows}
 use Rattle.cut_pool.specs.Packed.{written, unpacked, all_unpacked, AreRowsFrom}
 use Rattle.cut_pool.specs.PackedParts.{packed_rows, ArePackedRows}
-use Rattle.cut_pool.specs.Items.{Item}
+use Rattle.cut_pool.specs.Items.{PackedItem}
 use Rattle.cut_pool.specs.declared.packed.PackedValues.TheInside.{Inside}
 
-pub length-written : (ns : List ℕ) (xs : List Item) → length (written ns xs) ≡ length ns
+pub length-written : (ns : List ℕ) (xs : List PackedItem) → length (written ns xs) ≡ length ns
 length-written ns [] = refl
 length-written ns (x ∷ xs) = length-written (set ns x.at x.number) xs ∙ length-set ns x.at x.number
 
-pub length-unpacked : (n : ℕ) (xs : List Item) → length (unpacked n xs) ≡ n
+pub length-unpacked : (n : ℕ) (xs : List PackedItem) → length (unpacked n xs) ≡ n
 length-unpacked n xs = length-written (replicate n 0) xs ∙ length-replicate n 0
 
-pub written_push : (ns : List ℕ) (xs : List Item) (x : Item) → written ns (xs ++ x ∷ []) ≡ set (written ns xs) x.at x.number
+pub written_push : (ns : List ℕ) (xs : List PackedItem) (x : PackedItem) → written ns (xs ++ x ∷ []) ≡ set (written ns xs) x.at x.number
 written_push ns [] x = refl
 written_push ns (y ∷ xs) x = written_push (set ns y.at y.number) xs x
 
@@ -84,17 +84,17 @@ joined n m xs =
     ∙ take-append-drop n (take (n + m) xs)
 
 -- no list
-pub lists_start : (ns : List ℕ) (c : ℕ) (lists : List (Vec Item Global)) → lists ≡ [] → all_unpacked c lists ≡ take (0 * c) ns
+pub lists_start : (ns : List ℕ) (c : ℕ) (lists : List (Vec PackedItem Global)) → lists ≡ [] → all_unpacked c lists ≡ take (0 * c) ns
 lists_start ns c lists none =
     let e : 0 ≡ 0 * c = omega arith in
     ap (all_unpacked c) none ∙ ap (λ k. take k ns) e
 
 -- one list more
-pub lists_more : (ns part : List ℕ) (c i start : ℕ) (lists : List (Vec Item Global)) (v : Vec Item Global)
+pub lists_more : (ns part : List ℕ) (c i start : ℕ) (lists : List (Vec PackedItem Global)) (v : Vec PackedItem Global)
     → start ≡ i * c → start + c ≤ length ns → part ≡ slice_range ns start (start + c) → all_unpacked c lists ≡ take (i * c) ns
     → unpacked (length part) v.items ≡ part → all_unpacked c (lists ++ v ∷ []) ≡ take ((i + 1) * c) ns
 lists_more ns part c i start lists v at within is before here =
-    let f : Vec Item Global → List ℕ = λ v. unpacked c v.items in
+    let f : Vec PackedItem Global → List ℕ = λ v. unpacked c v.items in
     let whole : part ≡ take c (drop start ns) = is ∙ span start c ns in
     let long : length part ≡ c =
     ap length whole ∙ length-take-le c (drop start ns) (omega (arith, within, length-drop start ns)) in
@@ -117,13 +117,13 @@ row_in n q i j items below =
     ∙ ap (take q) (drop-drop (j * q) (i * (n * q)) items)
     ∙ ap (λ k. take q (drop k items)) place
 
-pub rows_unpacked : (s : Inside) (w : ValueRows) (i : ℕ) (x : Vec Item Global) (rows : List ℕ) → ArePackedRows s → packed_rows s ≡ w
+pub rows_unpacked : (s : Inside) (w : ValueRows) (i : ℕ) (x : Vec PackedItem Global) (rows : List ℕ) → ArePackedRows s → packed_rows s ≡ w
     → i < s.size → x ≡ get_or s.origins.items i x → rows ≡ unpacked (s.size * s.places) x.items → AreRowsFrom w i rows
 rows_unpacked s w i x rows ok view below is rows_are =
     let n = s.size in
     let q = s.places in
     let items = all_unpacked (n * q) s.origins.items in
-    let f : Vec Item Global → List ℕ = λ v. unpacked (n * q) v.items in
+    let f : Vec PackedItem Global → List ℕ = λ v. unpacked (n * q) v.items in
     let block : take (n * q) (drop (i * (n * q)) items) ≡ rows =
     list_at f (n * q) (λ v. length-unpacked (n * q) v.items) s.origins.items i x (omega (arith, below, ok.origins))
     ∙ ap f (sym is) ∙ sym rows_are in
@@ -144,13 +144,13 @@ pub set_beyond : (ns : List ℕ) (i v : ℕ) → length ns ≤ i → set ns i v 
 set_beyond ns i v past = set_past ns i v past
 
 -- no item
-pub front_start : (ns : List ℕ) (items : List Item) → items ≡ [] → unpacked (length ns) items ≡ front ns 0
+pub front_start : (ns : List ℕ) (items : List PackedItem) → items ≡ [] → unpacked (length ns) items ≡ front ns 0
 front_start ns items none =
     let e : length ns ≡ length ns - 0 = omega arith in
     ap (unpacked (length ns)) none ∙ ap (λ k. replicate k 0) e
 
 -- one number more
-pub front_further : (ns : List ℕ) (i v : ℕ) (before after : List Item) → i < length ns → v ≡ get_or ns i 0
+pub front_further : (ns : List ℕ) (i v : ℕ) (before after : List PackedItem) → i < length ns → v ≡ get_or ns i 0
     → unpacked (length ns) before ≡ front ns i → (v ≡ 0 → after ≡ before)
     → (0 < v → after ≡ before ++ record { at = i; number = v } ∷ []) → unpacked (length ns) after ≡ front ns (i + 1)
 front_further ns i v before after below is so_far same more =

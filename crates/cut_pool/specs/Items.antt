@@ -2,6 +2,6 @@
 use Rattle.std.specs.Prelude.{ℕ}
 
 -- a number, and the place where it stands
-pub record Item : Type 0 where
+pub record PackedItem : Type 0 where
   pub at : ℕ
   pub number : ℕ

@@ -3,23 +3,23 @@ use Rattle.std.specs.Prelude.{◌≡◌, ℕ, ◌+◌, ◌*◌, ◌<◌, List, [
 use Rattle.std.specs.declared.vec.Vec.{Vec}
 use Rattle.std.specs.declared.alloc.Global.{Global}
 use Rattle.cut_model.specs.ValueRows.{ValueRows, row_for}
-use Rattle.cut_pool.specs.Items.{Item}
+use Rattle.cut_pool.specs.Items.{PackedItem}
 
 -- a list with the items' numbers written into it, one after another
-abbrev pub written : List ℕ → List Item → List ℕ
+abbrev pub written : List ℕ → List PackedItem → List ℕ
 written numbers [] = numbers
 written numbers (x ∷ xs) = written (slice_set numbers x.at x.number) xs
 
 -- so many numbers: those of the items, and else 0
-abbrev pub unpacked : ℕ → List Item → List ℕ
+abbrev pub unpacked : ℕ → List PackedItem → List ℕ
 unpacked n items = written (replicate n 0) items
 
 -- all numbers of some lists of items, so many of each
-abbrev pub all_unpacked : ℕ → List (Vec Item Global) → List ℕ
+abbrev pub all_unpacked : ℕ → List (Vec PackedItem Global) → List ℕ
 all_unpacked cells lists = flat_map (λ v. unpacked cells v.items) lists
 
 -- the numbers are those of so many lists, with so many of each
-pub record ArePacked (numbers : List ℕ) (count cells : ℕ) (lists : Vec (Vec Item Global) Global) : Type 0 where
+pub record ArePacked (numbers : List ℕ) (count cells : ℕ) (lists : Vec (Vec PackedItem Global) Global) : Type 0 where
   pub count_is : length lists.items ≡ count
   pub numbers_are : all_unpacked cells lists.items ≡ numbers
 

@@ -13,26 +13,26 @@ use std::marker::Model;
 /// A number above 0 in a row of numbers, and where it stands, counted from 0. The number is held by its bytes, so that
 /// an item takes six, and not eight for where a number may begin.
 #[derive(Drop)]
-pub(crate) struct Item {
+pub(crate) struct PackedItem {
     at: u16,
     number: [u8; 4],
 }
 
-impl Model for Item {
+impl Model for PackedItem {
     ghost use Rattle.std.specs.Int.{w32, from_le_bytes};
     ghost use Rattle.cut_pool.specs.Items as listed;
 
-    ghost Value = { listed.Item };
+    ghost Value = { listed.PackedItem };
 
     ghost view = { λ s. record { at = s.at; number = from_le_bytes w32 s.number } };
 }
 
-impl Item {
+impl PackedItem {
     // This number at this place.
-    fn new(at: u16, number: u32) -> Item
+    fn new(at: u16, number: u32) -> PackedItem
         ensures { result ≡ record { at = at; number = number } }
     {
-        Item {
+        PackedItem {
             at,
             number: number.to_le_bytes(),
         }
@@ -59,7 +59,7 @@ pub struct PackedValues {
     places: usize,
     unit: u32,
     offset: u128,
-    origins: Vec<Vec<Item>>,
+    origins: Vec<Vec<PackedItem>>,
 }
 
 impl Model for PackedValues {
@@ -127,7 +127,7 @@ fn packed_origins(
     numbers: &[u32],
     count: usize,
     cells: usize,
-) -> Result<Vec<Vec<Item>>, AllocError>
+) -> Result<Vec<Vec<PackedItem>>, AllocError>
     requires long { length numbers.now ≡ count * cells }
     requires limit { cells ≤ most_nodes * most_nodes }
     ensures { IfOk result (ArePacked numbers.now count cells) }
@@ -142,7 +142,7 @@ fn packed_origins(
 }
 
 // The numbers above 0.
-fn packed(alloc: Global, numbers: &[u32]) -> Result<Vec<Item>, AllocError>
+fn packed(alloc: Global, numbers: &[u32]) -> Result<Vec<PackedItem>, AllocError>
     requires { length numbers.now ≤ most_nodes * most_nodes }
     ensures { IfOk result (λ items. unpacked (length numbers.now) items.items ≡ numbers.now) }
 {
@@ -165,7 +165,7 @@ fn count_above_zero(numbers: &[u32]) -> usize {
 }
 
 // Lists the number, if it is above 0.
-fn list(items: &mut Vec<Item>, at: u16, number: u32) -> Result<(), AllocError>
+fn list(items: &mut Vec<PackedItem>, at: u16, number: u32) -> Result<(), AllocError>
     ensures zero { number ≡ 0 → OnOk result (items.new.items ≡ items.old.items) }
     ensures above { 0 < number
         → OnOk result (items.new.items ≡ items.old.items ++ record { at = at; number = number } ∷ []) }
@@ -173,12 +173,12 @@ fn list(items: &mut Vec<Item>, at: u16, number: u32) -> Result<(), AllocError>
     if number == 0 {
         return Ok(());
     }
-    items.push(Item::new(at, number))?;
+    items.push(PackedItem::new(at, number))?;
     Ok(())
 }
 
 // Writes the items over zeros.
-fn unpack(items: &[Item], numbers: &mut [u32])
+fn unpack(items: &[PackedItem], numbers: &mut [u32])
     ensures { numbers.new ≡ unpacked (length numbers.old) items.now }
 {
     numbers.fill(0);

@@ -9,7 +9,7 @@ use hub_model::Instance;
 
 /// A commodity with a part and a price of that part, in 10^-12.
 #[derive(Clone, Copy)]
-pub(crate) struct Priced {
+pub(crate) struct PricedCommodity {
     pub from: u32,
     pub to: u32,
     pub part: u32,
@@ -17,7 +17,11 @@ pub(crate) struct Priced {
 }
 
 /// Tells whether the price is covered with each candidate as the first hub. `amounts` has a value for each node.
-pub(crate) fn is_covered_by_amounts(instance: &Instance, line: Priced, amounts: &[u128]) -> bool
+pub(crate) fn is_covered_by_amounts(
+    instance: &Instance,
+    line: PricedCommodity,
+    amounts: &[u128],
+) -> bool
     requires from { line.from < instance.now.size }
     requires to { line.to < instance.now.size }
     requires part { line.part ≤ most_part }
@@ -35,7 +39,12 @@ pub(crate) fn is_covered_by_amounts(instance: &Instance, line: Priced, amounts: 
 }
 
 /// Tells whether the price is covered with `k` as the only hub, and as the first with each candidate as the last.
-pub(crate) fn is_covered_first(instance: &Instance, line: Priced, amounts: &[u128], k: u32) -> bool
+pub(crate) fn is_covered_first(
+    instance: &Instance,
+    line: PricedCommodity,
+    amounts: &[u128],
+    k: u32,
+) -> bool
     requires from { line.from < instance.now.size }
     requires to { line.to < instance.now.size }
     requires part { line.part ≤ most_part }
@@ -47,7 +56,7 @@ pub(crate) fn is_covered_first(instance: &Instance, line: Priced, amounts: &[u12
     is_covered_alone(instance, line, amounts, k) && is_covered_from(instance, line, amounts, k)
 }
 
-fn is_covered_alone(instance: &Instance, line: Priced, amounts: &[u128], k: u32) -> bool
+fn is_covered_alone(instance: &Instance, line: PricedCommodity, amounts: &[u128], k: u32) -> bool
     requires from { line.from < instance.now.size }
     requires to { line.to < instance.now.size }
     requires part { line.part ≤ most_part }
@@ -62,7 +71,7 @@ fn is_covered_alone(instance: &Instance, line: Priced, amounts: &[u128], k: u32)
 
 /// Tells whether the price is covered with `k` as the first hub and each candidate as the last. Where collection and the
 /// value of `k` alone cover it, no last hub is visited.
-fn is_covered_from(instance: &Instance, line: Priced, amounts: &[u128], k: u32) -> bool
+fn is_covered_from(instance: &Instance, line: PricedCommodity, amounts: &[u128], k: u32) -> bool
     requires from { line.from < instance.now.size }
     requires to { line.to < instance.now.size }
     requires part { line.part ≤ most_part }
@@ -84,7 +93,13 @@ fn is_covered_from(instance: &Instance, line: Priced, amounts: &[u128], k: u32) 
     true
 }
 
-fn is_covered_by(instance: &Instance, line: Priced, amounts: &[u128], k: u32, m: u32) -> bool
+fn is_covered_by(
+    instance: &Instance,
+    line: PricedCommodity,
+    amounts: &[u128],
+    k: u32,
+    m: u32,
+) -> bool
     requires from { line.from < instance.now.size }
     requires to { line.to < instance.now.size }
     requires part { line.part ≤ most_part }

@@ -6,7 +6,7 @@ ghost use Rattle.hub_spec.specs.Cuts.{IsDual};
 ghost use Rattle.hub_spec.specs.Ranges.{IsAmount, IsDualInRange};
 ghost use Rattle.dual_lines.specs.Units.{weighted_flow};
 
-use crate::amounts::Priced;
+use crate::amounts::PricedCommodity;
 use crate::places::{clear, put_anew, put_unit, set_places};
 use crate::units::{inverse_of, is_covered, unit_value};
 use hub_model::Instance;
@@ -21,7 +21,7 @@ use std::marker::Model;
 pub(crate) struct CommodityLine<'a> {
     legs: CandidateLegs<'a>,
     places: Vec<u32>,
-    line: Priced,
+    line: PricedCommodity,
     carried: u64,
     inverse: u64,
     listed: Vec<(u32, u128)>,
@@ -65,7 +65,7 @@ impl<'a> CommodityLine<'a> {
         Ok(CommodityLine {
             legs,
             places,
-            line: Priced {
+            line: PricedCommodity {
                 from: 0,
                 to: 0,
                 part: 1,
@@ -95,7 +95,7 @@ impl<'a> CommodityLine<'a> {
             &mut self.units,
         );
         self.listed.clear();
-        self.line = Priced {
+        self.line = PricedCommodity {
             from: i,
             to: j,
             part,

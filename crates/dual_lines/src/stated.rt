@@ -5,7 +5,7 @@ ghost use Rattle.hub_spec.specs.Limits.{most_part};
 ghost use Rattle.hub_spec.specs.Cuts.{value_at, IsDual};
 ghost use Rattle.hub_spec.specs.Ranges.{IsDualInRange};
 
-use crate::amounts::{Priced, is_covered_by_amounts};
+use crate::amounts::{PricedCommodity, is_covered_by_amounts};
 use cut_model::StatedDual;
 use hub_model::{Instance, MOST_NODES, is_among};
 
@@ -27,7 +27,7 @@ pub fn is_dual(instance: &Instance, part: u32, commodity: (u32, u32), dual: &Sta
     let mut room = [0; ROOM];
     let amounts = &mut room[..instance.size() as usize];
     set_amounts(dual, amounts);
-    let line = Priced {
+    let line = PricedCommodity {
         from: commodity.0,
         to: commodity.1,
         part,

@@ -12,7 +12,7 @@ ghost use Rattle.hub_model.specs.CandidateLengths.{candidate_at};
 ghost use Rattle.dual_lines.specs.Covers.{IsCoveredFirst, IsCovered};
 ghost use Rattle.dual_lines.specs.Units.{most_unit, AreUnits, AreEnds, IsNearestLast, IsCoveredInUnits, weighted_flow};
 
-use crate::amounts::{Priced, is_covered_by_amounts, is_covered_first};
+use crate::amounts::{PricedCommodity, is_covered_by_amounts, is_covered_first};
 use leg_duals::CandidateLegs;
 
 /// A price by unit of flow, with what covers it: by place a value and the end of the last hub there, a leg of delivery
@@ -38,7 +38,7 @@ const REACHED: u64 = 4_611_686_018_427_387_904;
 /// one by unit of flow for each place, and `carried` is the flow times the part.
 pub(crate) fn is_covered(
     legs: &CandidateLegs,
-    line: Priced,
+    line: PricedCommodity,
     carried: u64,
     amounts: &[u128],
     units: &[u64],
@@ -141,7 +141,7 @@ fn is_within(times: u64, divisor: u64, amount: u64) -> bool
 /// Tells whether the price is covered with each candidate as the first hub, by unit of flow where that suffices.
 fn is_covered_by_units(
     legs: &CandidateLegs,
-    line: Priced,
+    line: PricedCommodity,
     price: u64,
     amounts: &[u128],
     units: &[u64],
@@ -177,7 +177,7 @@ fn is_covered_by_units(
 /// Tells whether the price is covered with the candidate at the place as the first hub.
 fn is_place_covered(
     legs: &CandidateLegs,
-    line: Priced,
+    line: PricedCommodity,
     tried: &UnitPrice<'_, '_>,
     amounts: &[u128],
     x: usize,

@@ -3,7 +3,7 @@ use Rattle.std.specs.Prelude.{◌≡◌, ◌<◌, ℕ, min, max, List, Bool, Opt
 use Rattle.std.specs.Io.KnownBytes.{Consumes, IsAtEnd}
 use Rattle.hub_io.specs.Outside.{Starts}
 use Rattle.hub_io.specs.declared.mem_shelf.MemFile.{MemFile}
-use Rattle.hub_io.specs.declared.mem_shelf.Place.{Place}
+use Rattle.hub_io.specs.declared.mem_shelf.ShelfPlace.{ShelfPlace}
 
 -- whether the file has this name
 abbrev pub has_name : List ℕ → MemFile → Bool
@@ -14,7 +14,7 @@ abbrev pub held_bytes : List MemFile → List ℕ → Option (List ℕ)
 held_bytes files name = option_map (λ f. f.bytes.items) (find (has_name name) files)
 
 -- the bytes from a place on
-abbrev pub left_bytes : List MemFile → Option Place → Option (List ℕ)
+abbrev pub left_bytes : List MemFile → Option ShelfPlace → Option (List ℕ)
 left_bytes files None = None
 left_bytes files (Some place) = option_map (λ f. drop place.byte f.bytes.items) (slice_get files place.file)
 
@@ -30,6 +30,6 @@ most_given (Some most) asked = min (max most 1) asked
 
 -- Bytes were read from what was left, as `Shelf` says it, or nothing was begun. `left_at` is what is left from a place
 -- on.
-abbrev pub ReadsOn : Option (List ℕ) → (Place → Option (List ℕ)) → Option (Place × ℕ) → List ℕ → Type 0
+abbrev pub ReadsOn : Option (List ℕ) → (ShelfPlace → Option (List ℕ)) → Option (ShelfPlace × ℕ) → List ℕ → Type 0
 ReadsOn left left_at None into = left ≡ None
 ReadsOn left left_at (Some r) into = IsSome left × IsSome (left_at r.0) × Consumes left (left_at r.0) (take r.1 into) × (r.1 ≡ 0 → 0 < length into → IsAtEnd (left_at r.0))

@@ -28,7 +28,7 @@ impl MemFile {
 
 // A byte of a file, both by their numbers, counted from 0.
 #[derive(Clone, Copy)]
-struct Place {
+struct ShelfPlace {
     file: usize,
     byte: usize,
 }
@@ -44,7 +44,7 @@ pub struct MemShelf {
     files: Vec<MemFile>,
     failing: Vec<u64>,
     lengths: Vec<usize>,
-    begun: Option<Place>,
+    begun: Option<ShelfPlace>,
     calls: u64,
     gave: usize,
     faults: u64,
@@ -156,7 +156,7 @@ impl Shelf for MemShelf {
         let Some(file) = file_named(&self.files, name) else {
             return Err(self.fault());
         };
-        self.begun = Some(Place { file, byte: 0 });
+        self.begun = Some(ShelfPlace { file, byte: 0 });
         Ok(())
     }
 
@@ -185,14 +185,18 @@ fn file_named(files: &[MemFile], name: &str) -> Option<usize>
 
 // Reads on from a place, and answers the place behind and how much was read: none where nothing was
 // begun.
-fn read_on(files: &[MemFile], begun: Option<Place>, into: &mut [u8]) -> Option<(Place, usize)>
+fn read_on(
+    files: &[MemFile],
+    begun: Option<ShelfPlace>,
+    into: &mut [u8],
+) -> Option<(ShelfPlace, usize)>
     ensures bound { IfSome result (λ r. r.1 ≤ length into.new) }
     ensures bytes { ReadsOn (left_bytes files.now begun) (λ p. left_bytes files.now (Some p)) result into.new }
 {
     let place = begun?;
     let file = files.get(place.file)?;
     let (byte, count) = copy_from(&file.bytes, place.byte, into);
-    let behind = Place {
+    let behind = ShelfPlace {
         file: place.file,
         byte,
     };

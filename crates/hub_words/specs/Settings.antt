@@ -3,12 +3,12 @@ use Rattle.std.specs.Prelude.{ℕ, ◌≤◌, Option, None, IfSome, IsNone, ◌�
 use Rattle.hub_spec.specs.Limits.{most_factor, most_length}
 use Rattle.file_spec.specs.Options.{HubNumber, IsHubNumber, Options}
 use Rattle.hub_model.specs.Asked.{order_of, tail_of, number_of}
-use Rattle.hub_words.specs.declared.settings.Factors.{Factors}
+use Rattle.hub_words.specs.declared.settings.FactorSettings.{FactorSettings}
 use Rattle.hub_words.specs.declared.settings.PlanLimits.{PlanLimits}
 use Rattle.hub_words.specs.declared.settings.Settings.{Settings}
 
 -- the factors for collection, trunk and delivery
-abbrev pub factors_of : Factors → Option ℕ × Option ℕ × Option ℕ
+abbrev pub factors_of : FactorSettings → Option ℕ × Option ℕ × Option ℕ
 factors_of f = (f.collect, f.trunk, f.deliver)
 
 -- a factor in 10^-3 within its limit
@@ -16,7 +16,7 @@ abbrev pub IsFactor : Option ℕ → Type 0
 IsFactor factor = IfSome factor (λ x. x ≤ most_factor)
 
 -- each factor is within its limit
-pub record IsFactors (f : Factors) : Type 0 where
+pub record IsFactors (f : FactorSettings) : Type 0 where
   pub collect : IsFactor f.collect
   pub trunk : IsFactor f.trunk
   pub deliver : IsFactor f.deliver

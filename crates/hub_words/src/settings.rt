@@ -19,7 +19,7 @@ pub(crate) struct Settings {
     pub(crate) order: Order,
     pub(crate) tail: Tail,
     pub(crate) divide: u32,
-    pub(crate) factors: Factors,
+    pub(crate) factors: FactorSettings,
     pub(crate) fixed: Option<u64>,
     pub(crate) limits: PlanLimits,
     pub(crate) no_self: bool,
@@ -35,7 +35,7 @@ pub(crate) struct PlanLimits {
 
 /// The factors that are given.
 #[derive(Clone, Copy)]
-pub(crate) struct Factors {
+pub(crate) struct FactorSettings {
     pub(crate) collect: Option<u64>,
     pub(crate) trunk: Option<u64>,
     pub(crate) deliver: Option<u64>,
@@ -65,11 +65,11 @@ pub(crate) fn read_settings(layout: Layout, found: &ArgMatches<'_>) -> Option<Se
     })
 }
 
-fn read_factors(found: &ArgMatches<'_>) -> Option<Factors>
+fn read_factors(found: &ArgMatches<'_>) -> Option<FactorSettings>
     ensures value { option_map factors_of result ≡ spec.factors_asked (rows_found found.now) }
     ensures limits { IfSome result IsFactors }
 {
-    Some(Factors {
+    Some(FactorSettings {
         collect: factor(given(found, "collect"))?,
         trunk: factor(given(found, "trunk"))?,
         deliver: factor(given(found, "deliver"))?,

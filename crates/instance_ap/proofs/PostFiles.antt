@@ -20,7 +20,7 @@ use Rattle.token_reader.specs.Unread.{Unread, whole, later, fault_here, value_he
 use Rattle.token_reader.proofs.Ahead.{later-later}
 use Rattle.token_reader.proofs.Formulas.{same_below}
 use Rattle.token_reader.proofs.Stretches.{fault_later, value_later, coordinate_later}
-use Rattle.instance_ap.specs.declared.layout.Front.{Front}
+use Rattle.instance_ap.specs.declared.layout.Preamble.{Preamble}
 use Rattle.instance_ap.specs.Points.{origin, coordinates_of, distance_between, distance_of, distances_front}
 use Rattle.instance_ap.specs.Fronts.{point_here, points_front, tail_here, IsLegalTail, IsTailFault, StoppedInTail}
 use Rattle.instance_ap.specs.Files.{front_length, IsFront, contents_with}
@@ -71,7 +71,7 @@ unfolding points_front
 points_count n r = length-map-range_with_len (λ k. point_here (later (2 * k) r)) 0 n
 
 -- there are as many points as nodes
-pub front_count : (bytes : List ℕ) (front : Front) → IsFront bytes front → length front.points.items ≡ front.n
+pub front_count : (bytes : List ℕ) (front : Preamble) → IsFront bytes front → length front.points.items ≡ front.n
 front_count bytes front is =
     sym (length-map front.points.items coordinates_of) ∙ (ap length is.points ∙ points_count front.n (later 1 (whole bytes)))
 
@@ -87,7 +87,7 @@ tail_fault o bytes n s t size e =
     ∙ (sym (fault_later w (front_length n + s) bytes) ∙ sym (ap (fault_here w) (later-later s (front_length n) (whole bytes)))))
 
 -- no token has a fault where none of the front and of the tail has one
-all_legal : (o : Options) (bytes : List ℕ) (front : Front) → IsFront bytes front → IsLegalTail o.tail front.n front.rest
+all_legal : (o : Options) (bytes : List ℕ) (front : Preamble) → IsFront bytes front → IsLegalTail o.tail front.n front.rest
     → (t : ℕ) → 1 ≤ t → post_fault o bytes t ≡ None
 all_legal o bytes front is legal t one =
     let k = front_length front.n in
@@ -99,7 +99,7 @@ all_legal o bytes front is legal t one =
     ]
 
 -- the first fault of the tail is that of the file
-first_of_tail : (o : Options) (bytes : List ℕ) (front : Front) (f : Fault) → IsFront bytes front → IsTailFault o.tail front.n front.rest f
+first_of_tail : (o : Options) (bytes : List ℕ) (front : Preamble) (f : Fault) → IsFront bytes front → IsTailFault o.tail front.n front.rest f
     → HasFault australia_post o bytes f
 first_of_tail o bytes front f is first =
     let k = front_length front.n in
@@ -117,12 +117,12 @@ first_of_tail o bytes front f is first =
       ];
     }
 
-tail_stopped : (o : Options) (bytes : List ℕ) (front : Front) (refusal : Refusal) → IsFront bytes front
+tail_stopped : (o : Options) (bytes : List ℕ) (front : Preamble) (refusal : Refusal) → IsFront bytes front
     → StoppedInTail o.tail front.n front.rest refusal → IsRefused australia_post o bytes refusal
 tail_stopped o bytes front OutOfMemory is stopped = tt
 tail_stopped o bytes front (of_fault f) is stopped = first_of_tail o bytes front (fault_of f) is stopped
 
-pub tail_refused : {A : Type 0} (o : Options) (bytes : List ℕ) (front : Front) (tail : Tail) (outcome : Result A Refusal) → IsFront bytes front
+pub tail_refused : {A : Type 0} (o : Options) (bytes : List ℕ) (front : Preamble) (tail : Tail) (outcome : Result A Refusal) → IsFront bytes front
     → tail ≡ o.tail → IfErr outcome (StoppedInTail tail front.n front.rest) → IfErr outcome (IsRefused australia_post o bytes)
 tail_refused o bytes front tail (Ok value) is same stopped = tt
 tail_refused o bytes front tail (Err refusal) is same stopped =
@@ -148,7 +148,7 @@ contents_by o tokens n = record {
   costs = tail_of o.tail n tokens (6 + 2 * n + n * n);
 }
 
-gathered : (o : Options) (bytes : List ℕ) (front : Front) (distances : List ℕ) (costs : Option (List ℕ)) → IsFront bytes front
+gathered : (o : Options) (bytes : List ℕ) (front : Preamble) (distances : List ℕ) (costs : Option (List ℕ)) → IsFront bytes front
     → distances ≡ distances_front o.divide front.n (map coordinates_of front.points.items) (front.n * front.n)
     → costs ≡ tail_here o.tail front.n front.rest
     → contents_with front.n front.flows distances front.listed_p front.factors costs ≡ contents_by o (tokens_of bytes) front.n
@@ -169,7 +169,7 @@ gathered o bytes front distances costs is far tail =
     }
 
 -- a file has the contents that are read
-pub has_contents : (o : Options) (bytes : List ℕ) (front : Front) (tail : Tail) (divide n : ℕ) (distances : List ℕ) (costs : Option (List ℕ))
+pub has_contents : (o : Options) (bytes : List ℕ) (front : Preamble) (tail : Tail) (divide n : ℕ) (distances : List ℕ) (costs : Option (List ℕ))
     → IsFront bytes front → tail ≡ o.tail → divide ≡ o.divide → n ≡ front.n → IsLegalTail tail front.n front.rest
     → costs ≡ tail_here tail front.n front.rest → distances ≡ distances_front divide n (map coordinates_of front.points.items) (n * n)
     → HasContents australia_post o bytes (contents_with front.n front.flows distances front.listed_p front.factors costs)

@@ -9,7 +9,7 @@ use Rattle.file_spec.specs.Files.{file_size, fault_at}
 use Rattle.hub_model.specs.Amounts.{natural}
 use Rattle.hub_model.specs.declared.factors.Factors.{Factors}
 use Rattle.token_reader.specs.Unread.{whole, later, values_here}
-use Rattle.instance_ap.specs.declared.layout.Front.{Front}
+use Rattle.instance_ap.specs.declared.layout.Preamble.{Preamble}
 use Rattle.instance_ap.specs.Points.{coordinates_of}
 use Rattle.instance_ap.specs.Fronts.{points_front}
 
@@ -18,7 +18,7 @@ abbrev pub front_length : ℕ → ℕ
 front_length n = 5 + 2 * n + n * n
 
 -- the file gives this in front of its tail, and no token there has a fault
-pub record IsFront (bytes : List ℕ) (front : Front) : Type 0 where
+pub record IsFront (bytes : List ℕ) (front : Preamble) : Type 0 where
   pub size : front.n ≡ file_size (tokens_of bytes)
   pub size_limit : front.n ≤ most_nodes
   pub points : map coordinates_of front.points.items ≡ points_front front.n (later 1 (whole bytes))

@@ -22,7 +22,7 @@ pub fn read_ap(alloc: Global, bytes: &[u8], terms: &Terms) -> Result<Parts, Refu
     ensures contents { IfOk result (λ parts. HasContents australia_post terms.now bytes.now parts) }
     ensures fault { IfErr result (IsRefused australia_post terms.now bytes.now) }
 {
-    let Front {
+    let Preamble {
         n,
         points,
         flows,
@@ -37,7 +37,7 @@ pub fn read_ap(alloc: Global, bytes: &[u8], terms: &Terms) -> Result<Parts, Refu
 
 /// What a file gives in front of its tail, and its tokens from there on.
 #[derive(Drop)]
-struct Front<'a> {
+struct Preamble<'a> {
     n: u32,
     points: Vec<Point>,
     flows: Numbers,
@@ -47,7 +47,7 @@ struct Front<'a> {
 }
 
 // Reads a file up to its tail.
-fn read_front(alloc: Global, bytes: &[u8]) -> Result<Front<'_>, Refusal>
+fn read_front(alloc: Global, bytes: &[u8]) -> Result<Preamble<'_>, Refusal>
     ensures front { IfOk result (IsFront bytes.now) }
     ensures fault { (o : Options) → IfErr result (IsRefused australia_post o bytes.now) }
 {
@@ -59,7 +59,7 @@ fn read_front(alloc: Global, bytes: &[u8]) -> Result<Front<'_>, Refusal>
         .quantity(0, MOST_LISTED as u64)
         .map_err(Refusal::Fault)? as u32;
     let factors = read_factors(&mut rest).map_err(Refusal::Fault)?;
-    Ok(Front {
+    Ok(Preamble {
         n,
         points,
         flows,

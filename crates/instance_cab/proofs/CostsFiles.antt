@@ -19,7 +19,7 @@ use Rattle.token_reader.specs.Refusals.{IsRefusedCosts}
 use Rattle.token_reader.proofs.Ahead.{later-none}
 use Rattle.token_reader.proofs.Stretches.{AreWanted, stretch_of, one_legal}
 use Rattle.token_reader.proofs.Stages.{IsReadTo, read_nothing, read_on, one_refused_costs, stretch_refused_costs}
-use Rattle.instance_cab.specs.declared.kinds.Kind.TheVariants.{Cost}
+use Rattle.instance_cab.specs.declared.kinds.ListKind.TheVariants.{Cost}
 use Rattle.instance_cab.specs.Matrices.{kept_front}
 use Rattle.instance_cab.proofs.MatrixFiles.{front_is}
 

@@ -13,8 +13,8 @@ use Rattle.hub_model.specs.GivenNumbers.{IsAmountUpTo}
 use Rattle.hub_model.proofs.Signs.{natural-pos}
 use Rattle.token_reader.specs.Unread.{Unread, later, value_here, values_here}
 use Rattle.token_reader.proofs.Formulas.{same_below}
-use Rattle.instance_cab.specs.declared.kinds.Kind.{Kind}
-use Rattle.instance_cab.specs.declared.kinds.Kind.TheVariants.{Flow, Distance, Cost}
+use Rattle.instance_cab.specs.declared.kinds.ListKind.{ListKind}
+use Rattle.instance_cab.specs.declared.kinds.ListKind.TheVariants.{Flow, Distance, Cost}
 use Rattle.instance_cab.specs.Matrices.{places_of, wanted_of, kept_front, divided_list}
 
 pub length-values : (places m : ℕ) (r : Unread) → length (values_here places m r) ≡ m
@@ -30,11 +30,11 @@ costs_kept : (n m : ℕ) (r : Unread) → values_here 6 m r ≡ kept_front Cost 
 unfolding values_here kept_front
 costs_kept n m r = refl
 
-pub kept_as_read : (kind : Kind) (n m : ℕ) (r : Unread) → (kind ≡ Flow) ⊎ (kind ≡ Cost) → values_here (places_of kind) m r ≡ kept_front kind n m r
+pub kept_as_read : (kind : ListKind) (n m : ℕ) (r : Unread) → (kind ≡ Flow) ⊎ (kind ≡ Cost) → values_here (places_of kind) m r ≡ kept_front kind n m r
 kept_as_read kind n m r (inl is) =
-    let P : Kind → Type 0 = λ kind. values_here (places_of kind) m r ≡ kept_front kind n m r in subst P (sym is) (flows_kept n m r)
+    let P : ListKind → Type 0 = λ kind. values_here (places_of kind) m r ≡ kept_front kind n m r in subst P (sym is) (flows_kept n m r)
 kept_as_read kind n m r (inr is) =
-    let P : Kind → Type 0 = λ kind. values_here (places_of kind) m r ≡ kept_front kind n m r in subst P (sym is) (costs_kept n m r)
+    let P : ListKind → Type 0 = λ kind. values_here (places_of kind) m r ≡ kept_front kind n m r in subst P (sym is) (costs_kept n m r)
 
 -- distances are divided
 distances_kept : (divide n m : ℕ) (r : Unread) → divided_list divide n (values_here 3 m r) ≡ kept_front (Distance divide) n m r
@@ -47,7 +47,7 @@ distances_kept divide n m r =
     (λ s below. let zeroth : 0 + s ≡ s = omega arith in
     ap (divided_distance divide n s) (get_or-map-range_with_len f 0 m s s 0 below zeroth))
 
-pub divided_kept : (kind : Kind) (divide n m : ℕ) (r : Unread) (read : List ℤ) → kind ≡ Distance divide
+pub divided_kept : (kind : ListKind) (divide n m : ℕ) (r : Unread) (read : List ℤ) → kind ≡ Distance divide
     → read ≡ map pos (values_here (places_of kind) m r) → divided_list divide n (map natural read) ≡ kept_front kind n m r
 divided_kept kind divide n m r read is values =
     ap (λ zs. divided_list divide n (map natural zs)) values
@@ -60,13 +60,13 @@ pub distances_count : (places n m : ℕ) (r : Unread) (read : List ℤ) → read
 distances_count places n m r read values h =
     omega (arith, ap length values, length-map (values_here places m r) (λ v. pos v), length-values places m r)
 
-distance_limit : (kind : Kind) (divide limit : ℕ) → kind ≡ Distance divide → a_quantity (places_of kind) limit ≡ wanted_of kind → limit ≡ most_distance
+distance_limit : (kind : ListKind) (divide limit : ℕ) → kind ≡ Distance divide → a_quantity (places_of kind) limit ≡ wanted_of kind → limit ≡ most_distance
 distance_limit kind divide limit is wanted =
-    let P : Kind → Type 0 = λ kind. a_quantity (places_of kind) limit ≡ wanted_of kind in
+    let P : ListKind → Type 0 = λ kind. a_quantity (places_of kind) limit ≡ wanted_of kind in
     let e : a_quantity 3 limit ≡ a_quantity 3 most_distance = subst P is wanted in
     cc
 
-pub distances_within : (kind : Kind) (divide limit : ℕ) (values : List ℕ) (read : List ℤ) → kind ≡ Distance divide
+pub distances_within : (kind : ListKind) (divide limit : ℕ) (values : List ℕ) (read : List ℤ) → kind ≡ Distance divide
     → a_quantity (places_of kind) limit ≡ wanted_of kind → All (λ v. v ≤ limit) values → read ≡ map pos values → All (IsAmountUpTo most_distance) read
 distances_within kind divide limit values read is wanted within e =
     let P : List ℤ → Type 0 = λ zs. All (IsAmountUpTo most_distance) zs in

@@ -11,13 +11,13 @@ use Rattle.file_spec.proofs.Ends.{none_past}
 use Rattle.token_reader.specs.Unread.{whole, later, value_here}
 use Rattle.token_reader.proofs.Ahead.{later-later}
 use Rattle.token_reader.proofs.Stretches.{value_later}
-use Rattle.instance_cab.specs.declared.kinds.Kind.{Kind}
-use Rattle.instance_cab.specs.declared.kinds.Kind.TheVariants.{Flow, Distance}
+use Rattle.instance_cab.specs.declared.kinds.ListKind.{ListKind}
+use Rattle.instance_cab.specs.declared.kinds.ListKind.TheVariants.{Flow, Distance}
 use Rattle.instance_cab.specs.Matrices.{places_of, kept_of, kept_front, first_kind, second_kind, contents_with}
 use Rattle.instance_cab.proofs.MatrixTokens.{matrix_fault}
 
 -- a stretch of numbers, by the numbers of their tokens
-pub front_is : (kind : Kind) (n k m : ℕ) (bytes : List ℕ) (f : ℕ → ℕ)
+pub front_is : (kind : ListKind) (n k m : ℕ) (bytes : List ℕ) (f : ℕ → ℕ)
     → ((s : ℕ) → f s ≡ kept_of kind n s (value_at (tokens_of bytes) (places_of kind) (1 + (k + s))))
     → map f (range_with_len 0 m) ≡ kept_front kind n m (later k (whole bytes))
 unfolding kept_front

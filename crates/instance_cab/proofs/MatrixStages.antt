@@ -14,7 +14,7 @@ use Rattle.token_reader.specs.Unread.{Unread, whole, later, fault_here, value_he
 use Rattle.token_reader.specs.Refusals.{IsRefused}
 use Rattle.token_reader.proofs.Stretches.{one_legal}
 use Rattle.token_reader.proofs.Stages.{IsReadTo, read_nothing, read_on, read_one, one_refused, stretch_refused, size_is}
-use Rattle.instance_cab.specs.declared.kinds.Kind.{Kind}
+use Rattle.instance_cab.specs.declared.kinds.ListKind.{ListKind}
 use Rattle.instance_cab.specs.Matrices.{wanted_of, kept_front, contents_with}
 use Rattle.instance_cab.proofs.MatrixTokens.{matrix_fault, first_of, second_of, size_stretch, first_stretch, second_stretch, end_stretch}
 use Rattle.instance_cab.proofs.MatrixFiles.{all_read}
@@ -49,7 +49,7 @@ pub size_refused : (o : Options) (bytes : List ℕ) (start : Unread) (outcome : 
 size_refused o bytes start outcome at fault =
     one_refused cab_matrix o bytes a_size 0 start outcome (size_stretch o bytes) (read_nothing (matrix_fault o bytes) bytes start at) fault
 
-pub half_read : (o : Options) (bytes : List ℕ) (n : ℕ) (kind : Kind) (start r : Unread) (first : List ℕ) → IsSized o bytes n start
+pub half_read : (o : Options) (bytes : List ℕ) (n : ℕ) (kind : ListKind) (start r : Unread) (first : List ℕ) → IsSized o bytes n start
     → kind ≡ first_of o → AreLegal (wanted_of kind) (n * n) start → first ≡ kept_front kind n (n * n) start → r ≡ later (n * n) start
     → IsHalfRead o bytes n first r
 half_read o bytes n kind start r first so_far is legal kept moved = record {
@@ -59,13 +59,13 @@ half_read o bytes n kind start r first so_far is legal kept moved = record {
   first_is = kept ∙ (λ i. kept_front (is i) n (n * n) (so_far.read.at i));
 }
 
-pub first_refused : (o : Options) (bytes : List ℕ) (n : ℕ) (kind : Kind) (start : Unread) (outcome : Result (List ℕ) Refusal) → IsSized o bytes n start
+pub first_refused : (o : Options) (bytes : List ℕ) (n : ℕ) (kind : ListKind) (start : Unread) (outcome : Result (List ℕ) Refusal) → IsSized o bytes n start
     → kind ≡ first_of o → IfErr outcome (StoppedAt (wanted_of kind) (n * n) start) → IfErr outcome (IsRefused cab_matrix o bytes)
 first_refused o bytes n kind start outcome so_far is stopped =
     stretch_refused cab_matrix o bytes (wanted_of (first_of o)) 1 (n * n) start outcome (first_stretch o bytes n so_far.size) so_far.read
     (subst (λ k. IfErr outcome (StoppedAt (wanted_of k) (n * n) start)) is stopped)
 
-pub both_read : (o : Options) (bytes : List ℕ) (n : ℕ) (kind : Kind) (start r : Unread) (first second : List ℕ) → IsHalfRead o bytes n first start
+pub both_read : (o : Options) (bytes : List ℕ) (n : ℕ) (kind : ListKind) (start r : Unread) (first second : List ℕ) → IsHalfRead o bytes n first start
     → kind ≡ second_of o → AreLegal (wanted_of kind) (n * n) start → second ≡ kept_front kind n (n * n) start → r ≡ later (n * n) start
     → AreBothRead o bytes n first second r
 both_read o bytes n kind start r first second so_far is legal kept moved = record {
@@ -76,7 +76,7 @@ both_read o bytes n kind start r first second so_far is legal kept moved = recor
   second_is = kept ∙ (λ i. kept_front (is i) n (n * n) (so_far.read.at i));
 }
 
-pub second_refused : (o : Options) (bytes : List ℕ) (n : ℕ) (kind : Kind) (start : Unread) (first : List ℕ) (outcome : Result (List ℕ) Refusal)
+pub second_refused : (o : Options) (bytes : List ℕ) (n : ℕ) (kind : ListKind) (start : Unread) (first : List ℕ) (outcome : Result (List ℕ) Refusal)
     → IsHalfRead o bytes n first start → kind ≡ second_of o → IfErr outcome (StoppedAt (wanted_of kind) (n * n) start)
     → IfErr outcome (IsRefused cab_matrix o bytes)
 second_refused o bytes n kind start first outcome so_far is stopped =

@@ -7,7 +7,7 @@ use Rattle.file_spec.specs.Faults.{Fault}
 use Rattle.file_spec.specs.Places.{a_size, nothing, matrix_wanted, matrices_wanted}
 use Rattle.file_spec.specs.Files.{file_size, fault_at}
 use Rattle.token_reader.proofs.Stretches.{AreWanted, stretch_of}
-use Rattle.instance_cab.specs.declared.kinds.Kind.{Kind}
+use Rattle.instance_cab.specs.declared.kinds.ListKind.{ListKind}
 use Rattle.instance_cab.specs.Matrices.{wanted_of, first_kind, second_kind}
 
 wanted_by_kinds : (order : Order) (divide n t : ℕ) → matrices_wanted order n t ≡ matrix_wanted (wanted_of (first_kind order divide)) (wanted_of (second_kind order divide)) n t
@@ -33,10 +33,10 @@ abbrev pub matrix_fault : Options → List ℕ → ℕ → Option Fault
 matrix_fault o bytes = fault_at cab_matrix o (tokens_of bytes)
 
 -- the first and the second kind of matrix in the file
-abbrev pub first_of : Options → Kind
+abbrev pub first_of : Options → ListKind
 first_of o = first_kind o.order o.divide
 
-abbrev pub second_of : Options → Kind
+abbrev pub second_of : Options → ListKind
 second_of o = second_kind o.order o.divide
 
 -- the number of nodes, the two matrices, and the end

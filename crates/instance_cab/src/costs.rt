@@ -5,7 +5,7 @@ ghost use Rattle.hub_model.specs.Amounts.{natural};
 ghost use Rattle.hub_model.specs.Building.{AreGivenCosts};
 ghost use Rattle.token_reader.specs.Refusals.{IsRefusedCosts};
 
-use crate::kinds::Kind;
+use crate::kinds::ListKind;
 use crate::lists::numbers;
 use hub_model::Refusal;
 use std::alloc::Global;
@@ -20,7 +20,7 @@ pub fn read_costs(alloc: Global, bytes: &[u8], n: u32) -> Result<Vec<i128>, Refu
     ensures fault { IfErr result (IsRefusedCosts n bytes.now) }
 {
     let mut reader = Reader::over(bytes);
-    let costs = numbers(&mut reader, alloc, &Kind::Cost, n, n)?;
+    let costs = numbers(&mut reader, alloc, &ListKind::Cost, n, n)?;
     reader.end().map_err(Refusal::Fault)?;
     Ok(costs.into_vec())
 }

@@ -6,7 +6,7 @@ use hub_model::{MOST_COST_READ, MOST_DISTANCE, MOST_FLOW};
 
 /// What the numbers of a list are.
 #[derive(Clone, Copy)]
-pub(crate) enum Kind {
+pub(crate) enum ListKind {
     /// Flows, in 10^-6.
     Flow,
     /// Distances, in 10^-3, to be divided by `divide`.
@@ -15,15 +15,15 @@ pub(crate) enum Kind {
     Cost,
 }
 
-impl Kind {
+impl ListKind {
     /// How many decimals count.
     pub(crate) fn places(&self) -> u32
         ensures value { result ≡ places_of self.now }
         ensures limit { result ≤ 6 }
     {
         match self {
-            Kind::Flow | Kind::Cost => 6,
-            Kind::Distance { .. } => 3,
+            ListKind::Flow | ListKind::Cost => 6,
+            ListKind::Distance { .. } => 3,
         }
     }
 
@@ -32,9 +32,9 @@ impl Kind {
         ensures { a_quantity (places_of self.now) result ≡ wanted_of self.now }
     {
         match self {
-            Kind::Flow => MOST_FLOW,
-            Kind::Distance { .. } => MOST_DISTANCE,
-            Kind::Cost => MOST_COST_READ as u64,
+            ListKind::Flow => MOST_FLOW,
+            ListKind::Distance { .. } => MOST_DISTANCE,
+            ListKind::Cost => MOST_COST_READ as u64,
         }
     }
 }

@@ -4,7 +4,7 @@ ghost use Rattle.token_reader.specs.Unread.{later, AreLegal, StoppedAt};
 ghost use Rattle.instance_cab.specs.Matrices.{wanted_of, IsKind, kept_front};
 
 use crate::distances::divided_list;
-use crate::kinds::Kind;
+use crate::kinds::ListKind;
 use hub_model::{Numbers, Refusal};
 use std::alloc::Global;
 use token_reader::Reader;
@@ -13,7 +13,7 @@ use token_reader::Reader;
 pub(crate) fn numbers(
     reader: &mut Reader,
     alloc: Global,
-    kind: &Kind,
+    kind: &ListKind,
     n: u32,
     count: u32,
 ) -> Result<Numbers, Refusal>
@@ -27,7 +27,7 @@ pub(crate) fn numbers(
 {
     let read = reader.quantities(alloc, count, kind.places(), kind.limit())?;
     match *kind {
-        Kind::Flow | Kind::Cost => Ok(read),
-        Kind::Distance { divide } => Ok(divided_list(alloc, read.as_slice(), n, divide)?),
+        ListKind::Flow | ListKind::Cost => Ok(read),
+        ListKind::Distance { divide } => Ok(divided_list(alloc, read.as_slice(), n, divide)?),
     }
 }

@@ -6,7 +6,7 @@ ghost use Rattle.instance_cab.specs.Matrices.{IsKind, first_kind, second_kind, c
 ghost use Rattle.token_reader.specs.Refusals.{IsRefused};
 
 use crate::contents::parts;
-use crate::kinds::Kind;
+use crate::kinds::ListKind;
 use crate::lists::numbers;
 use hub_model::{Numbers, Order, Parts, Refusal, Terms};
 use std::alloc::Global;
@@ -32,18 +32,18 @@ pub fn read_matrix(alloc: Global, bytes: &[u8], terms: &Terms) -> Result<Parts, 
 }
 
 // The kinds of the two matrices, in the order of the file.
-fn kinds(terms: &Terms) -> (Kind, Kind)
+fn kinds(terms: &Terms) -> (ListKind, ListKind)
     ensures first { result.0 ≡ first_kind terms.now.order terms.now.divide }
     ensures second { result.1 ≡ second_kind terms.now.order terms.now.divide }
     ensures kinds { IsKind result.0 × IsKind result.1 }
     ensures limits { IsOptions terms.now }
 {
-    let distance = Kind::Distance {
+    let distance = ListKind::Distance {
         divide: terms.divisor(),
     };
     match terms.order {
-        Order::FlowFirst => (Kind::Flow, distance),
-        Order::DistanceFirst => (distance, Kind::Flow),
+        Order::FlowFirst => (ListKind::Flow, distance),
+        Order::DistanceFirst => (distance, ListKind::Flow),
     }
 }
 

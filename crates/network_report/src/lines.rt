@@ -8,7 +8,7 @@ ghost use Rattle.cert_format.specs.Spaced.{spaced_node};
 ghost use Rattle.network_report.specs.Texts.{status_word, status_line, hubs_line, cost_line, leg_lines, total_lines, listed_line, hub_line, flows_line};
 
 use crate::hub_flows::HubFlows;
-use crate::legs::Legs;
+use crate::legs::FlowLegs;
 use cert_format::Certificate;
 use dec_text::{Piece, put_pieces};
 use hub_io::{Buffer, Failed, Sink};
@@ -82,7 +82,7 @@ pub(crate) fn put_legs<K: Sink>(
     ensures { PutsThrough K.taken K.faults sink.old sink.new buffer.old buffer.new result
         (leg_lines instance.now plan.now) }
 {
-    let legs = Legs::of_plan(instance, plan);
+    let legs = FlowLegs::of_plan(instance, plan);
     put_cost(b"collection", legs.collection, buffer, sink)?;
     put_cost(b"trunk", legs.trunk, buffer, sink)?;
     put_cost(b"delivery", legs.delivery, buffer, sink)

@@ -24,7 +24,7 @@ use Rattle.node_rounds.specs.declared.outcomes.Outcome.{Outcome}
 use Rattle.node_rounds.specs.declared.outcomes.Outcome.TheVariants.{Ends, Ask, Split}
 use Rattle.node_rounds.specs.declared.fronts.Place.{Place}
 use Rattle.node_rounds.specs.declared.fronts.Place.TheVariants.{Line, Open}
-use Rattle.node_rounds.specs.declared.fronts.Front.{Front}
+use Rattle.node_rounds.specs.declared.fronts.RoundState.{RoundState}
 use Rattle.node_rounds.specs.Outcomes.{IsPendingOf, IsOutcomeOf}
 use Rattle.node_rounds.specs.Fronts.{place_of, places_of, IsPlaceOf, IsFront, IsTaken}
 
@@ -54,7 +54,7 @@ nodes_kept p before after xs grown all = All-weaker (IsPlaceOf p before) (IsPlac
 -- ---- one place more
 
 -- the search goes on to this state with no other line, and a place was pushed
-pub pushed_at : (t : Task) (before after : Front) (s : State) (x : Place) → IsFront t before → IsAt t before.progress after.progress s
+pub pushed_at : (t : Task) (before after : RoundState) (s : State) (x : Place) → IsFront t before → IsAt t before.progress after.progress s
     → after.places.items ≡ before.places.items ++ x ∷ [] → IsPlaceOf t.instance.now after.progress.pool.entries x
     → IsTaken t before after (record { state = s; places = place_of x ∷ [] })
 pushed_at t before after s x front at pushed is =
@@ -99,7 +99,7 @@ at_two_more t before after going is few =
     })
 
 -- one step after another
-pub taken_then : (t : Task) (a b c : Front) (x y : places.Standing) → IsTaken t a b x → IsTaken t b c y
+pub taken_then : (t : Task) (a b c : RoundState) (x y : places.Standing) → IsTaken t a b x → IsTaken t b c y
     → IsTaken t a c (record { state = y.state; places = x.places ++ y.places })
 taken_then t a b c x y first second = record {
   state = second.state;
@@ -110,11 +110,11 @@ taken_then t a b c x y first second = record {
 }
 
 -- what was taken is this
-pub taken_as : (t : Task) (a b : Front) (x y : places.Standing) → x ≡ y → IsTaken t a b x → IsTaken t a b y
+pub taken_as : (t : Task) (a b : RoundState) (x y : places.Standing) → x ≡ y → IsTaken t a b x → IsTaken t a b y
 taken_as t a b x y is taken = subst (IsTaken t a b) is taken
 
 -- a step that adds places, after one that adds none
-pub taken_after : (t : Task) (a b c : Front) (s : State) (x : places.Standing) → IsAt t a.progress b.progress s → b.places ≡ a.places
+pub taken_after : (t : Task) (a b c : RoundState) (s : State) (x : places.Standing) → IsAt t a.progress b.progress s → b.places ≡ a.places
     → IsTaken t b c x → IsTaken t a c x
 taken_after t a b c s x at same taken = record {
   state = taken.state;

@@ -25,8 +25,8 @@ use Rattle.node_rounds.specs.declared.outcomes.Pending.{Pending}
 use Rattle.node_rounds.specs.declared.outcomes.Outcome.{Outcome}
 use Rattle.node_rounds.specs.declared.outcomes.Outcome.TheVariants.{Ends, Ask, Split}
 use Rattle.node_rounds.specs.declared.left.Left.{Left}
-use Rattle.node_rounds.specs.declared.left.Mark.{Mark}
-use Rattle.node_rounds.specs.declared.left.Mark.TheVariants.{Line, Node}
+use Rattle.node_rounds.specs.declared.left.TreeSlot.{TreeSlot}
+use Rattle.node_rounds.specs.declared.left.TreeSlot.TheVariants.{Line, Node}
 use Rattle.node_rounds.specs.Outcomes.{pending_of, IsTurnOf, IsOutcomeOf}
 use Rattle.node_rounds.specs.Left.{AreMatched, placed, left_of, lines_first, standing_of, IsLeft, turned_of}
 use Rattle.search_spec.specs.Turns.{next_round, at_root}
@@ -46,7 +46,7 @@ abbrev last_first : List Pending → List places.Pending → List places.Pending
 last_first [] after = after
 last_first (x ∷ xs) after = last_first xs (pending_of x ∷ after)
 
-opens_placed : (ms : List Mark) (xs : List Pending) (after : List places.Place) → AreMatched ms xs → opens (placed ms xs after) ≡ last_first xs (opens after)
+opens_placed : (ms : List TreeSlot) (xs : List Pending) (after : List places.Place) → AreMatched ms xs → opens (placed ms xs after) ≡ last_first xs (opens after)
 opens_placed [] [] after same = refl
 opens_placed [] (x ∷ xs) after same = absurd (omega (arith, same))
 opens_placed (Line l ∷ ms) xs after same = opens_placed ms xs (places.line (tree_line_of l) ∷ after) same

@@ -18,8 +18,8 @@ use Rattle.search_spec.specs.Places as places
 use Rattle.search_spec.specs.Places.{line, open_at}
 use Rattle.search_spec.specs.Turns.{Closed, closed_up}
 use Rattle.node_rounds.specs.declared.outcomes.Pending.{Pending}
-use Rattle.node_rounds.specs.declared.left.Mark.{Mark}
-use Rattle.node_rounds.specs.declared.left.Mark.TheVariants.{Line, Node}
+use Rattle.node_rounds.specs.declared.left.TreeSlot.{TreeSlot}
+use Rattle.node_rounds.specs.declared.left.TreeSlot.TheVariants.{Line, Node}
 use Rattle.node_rounds.specs.declared.left.Left.{Left}
 use Rattle.node_rounds.specs.Outcomes.{pending_of, IsPendingOf}
 use Rattle.node_rounds.specs.Left.{AreMatched, placed, left_of, lines_first, IsLeft}
@@ -63,7 +63,7 @@ lines_twice xs ys c = ap (λ (ls : List TreeLine). (let x : Closed = record { st
 -- ---- by the code
 
 -- the lines so far, with the end of what is left, are the whole end
-pub record IsClosing (t : Task) (s₀ : Progress) (left : Left) (s : Progress) (ms : List Mark) (xs : List Pending) : Type 0 where
+pub record IsClosing (t : Task) (s₀ : Progress) (left : Left) (s : Progress) (ms : List TreeSlot) (xs : List Pending) : Type 0 where
   pub whole : lines_before (lines_of s.lines.items) (closed_up t.instance.now (parts_of t.instance.now) (placed ms xs []) (state_of t.instance.now s))
       ≡ closed_up t.instance.now (parts_of t.instance.now) (lines_first s₀.lines.items (left_of left)) (state_of t.instance.now s₀)
   pub going : IsGoing t s
@@ -95,7 +95,7 @@ with_lines t s new going few = record {
 }
 
 -- the next of what is left is a line
-pub closing_line : (t : Task) (s₀ : Progress) (left : Left) (s : Progress) (new : Vec model.TreeLine Global) (ms more : List Mark) (xs : List Pending) (l : model.TreeLine)
+pub closing_line : (t : Task) (s₀ : Progress) (left : Left) (s : Progress) (new : Vec model.TreeLine Global) (ms more : List TreeSlot) (xs : List Pending) (l : model.TreeLine)
     → IsClosing t s₀ left s more xs → more ≡ ms ++ Line l ∷ [] → new.items ≡ s.lines.items ++ l ∷ [] → length new.items ≤ most_tree_lines
     → IsClosing t s₀ left (record s { lines = new }) ms xs
 closing_line t s₀ left s new ms more xs l is marks lines few =
@@ -115,7 +115,7 @@ closing_line t s₀ left s new ms more xs l is marks lines few =
     }
 
 -- and where it is a node
-pub closing_node : (t : Task) (s₀ : Progress) (left : Left) (s s' : Progress) (new : Vec model.TreeLine Global) (ms more : List Mark) (xs ys : List Pending) (x : Pending)
+pub closing_node : (t : Task) (s₀ : Progress) (left : Left) (s s' : Progress) (new : Vec model.TreeLine Global) (ms more : List TreeSlot) (xs ys : List Pending) (x : Pending)
     (l : model.TreeLine) → IsClosing t s₀ left s more ys → more ≡ ms ++ Node ∷ [] → ys ≡ xs ++ x ∷ []
     → IsAt t s s' (ended_node t.instance.now (pending_of x) (state_of t.instance.now s)).state
     → preorder (ended_node t.instance.now (pending_of x) (state_of t.instance.now s)).tree ≡ tree_line_of l ∷ []
@@ -142,7 +142,7 @@ closing_node t s₀ left s s' new ms more xs ys x l is marks nodes at one lines 
     }
 
 -- nothing is left
-pub closing_over : (t : Task) (s₀ : Progress) (left : Left) (s : Progress) (ms : List Mark) (xs : List Pending) → IsClosing t s₀ left s ms xs → ms ≡ []
+pub closing_over : (t : Task) (s₀ : Progress) (left : Left) (s : Progress) (ms : List TreeSlot) (xs : List Pending) → IsClosing t s₀ left s ms xs → ms ≡ []
     → record { state = state_of t.instance.now s; lines = lines_of s.lines.items }
     ≡ closed_up t.instance.now (parts_of t.instance.now) (lines_first s₀.lines.items (left_of left)) (state_of t.instance.now s₀)
 closing_over t s₀ left s ms xs is none =

@@ -8,22 +8,22 @@ use Rattle.cut_pool.specs.Findings.{lines_of}
 use Rattle.search_spec.specs.Places as places
 use Rattle.node_rounds.specs.declared.outcomes.Pending.{Pending}
 use Rattle.node_rounds.specs.declared.fronts.Place.{Place}
-use Rattle.node_rounds.specs.declared.left.Mark.{Mark}
-use Rattle.node_rounds.specs.declared.left.Mark.TheVariants.{Line, Node}
+use Rattle.node_rounds.specs.declared.left.TreeSlot.{TreeSlot}
+use Rattle.node_rounds.specs.declared.left.TreeSlot.TheVariants.{Line, Node}
 use Rattle.node_rounds.specs.Outcomes.{pending_of}
 use Rattle.node_rounds.specs.Fronts.{place_of, places_of}
 use Rattle.node_rounds.specs.Left.{marked, AreMatched, placed, lines_first}
 
 -- ---- one mark more
 
-pub marked_more : (ms : List Mark) (m : Mark) → marked (ms ++ m ∷ []) ≡ marked ms + marked (m ∷ [])
+pub marked_more : (ms : List TreeSlot) (m : TreeSlot) → marked (ms ++ m ∷ []) ≡ marked ms + marked (m ∷ [])
 marked_more [] (Line l) = refl
 marked_more [] Node = refl
 marked_more (Line l ∷ ms) m = marked_more ms m
 marked_more (Node ∷ ms) m = omega (arith, marked_more ms m)
 
 -- a line before the others
-pub placed_line : (ms : List Mark) (xs : List Pending) (l : model.TreeLine) (after : List places.Place) → AreMatched ms xs
+pub placed_line : (ms : List TreeSlot) (xs : List Pending) (l : model.TreeLine) (after : List places.Place) → AreMatched ms xs
     → placed (ms ++ Line l ∷ []) xs after ≡ places.line (tree_line_of l) ∷ placed ms xs after
 placed_line [] xs l after same = refl
 placed_line (Line m ∷ ms) xs l after same = placed_line ms xs l (places.line (tree_line_of m) ∷ after) same
@@ -31,7 +31,7 @@ placed_line (Node ∷ ms) [] l after same = absurd (omega (arith, same))
 placed_line (Node ∷ ms) (x ∷ xs) l after same = placed_line ms xs l (places.open_at (pending_of x) ∷ after) (omega (arith, same))
 
 -- a node before the others
-pub placed_node : (ms : List Mark) (xs : List Pending) (x : Pending) (after : List places.Place) → AreMatched ms xs
+pub placed_node : (ms : List TreeSlot) (xs : List Pending) (x : Pending) (after : List places.Place) → AreMatched ms xs
     → placed (ms ++ Node ∷ []) (xs ++ x ∷ []) after ≡ places.open_at (pending_of x) ∷ placed ms xs after
 placed_node [] [] x after same = refl
 placed_node [] (y ∷ ys) x after same = absurd (omega (arith, same))
@@ -42,41 +42,41 @@ placed_node (Node ∷ ms) (y ∷ ys) x after same = placed_node ms ys x (places.
 -- ---- the same, by equations of marks and nodes
 
 -- marks and nodes stay matched with a line more or less
-pub line_matched : (ms more : List Mark) (xs : List Pending) (l : model.TreeLine) → more ≡ ms ++ Line l ∷ [] → AreMatched ms xs → AreMatched more xs
+pub line_matched : (ms more : List TreeSlot) (xs : List Pending) (l : model.TreeLine) → more ≡ ms ++ Line l ∷ [] → AreMatched ms xs → AreMatched more xs
 line_matched ms more xs l is same = ap marked is ∙ marked_more ms (Line l) ∙ omega (arith, same)
 
-pub line_unmatched : (ms more : List Mark) (xs : List Pending) (l : model.TreeLine) → more ≡ ms ++ Line l ∷ [] → AreMatched more xs → AreMatched ms xs
+pub line_unmatched : (ms more : List TreeSlot) (xs : List Pending) (l : model.TreeLine) → more ≡ ms ++ Line l ∷ [] → AreMatched more xs → AreMatched ms xs
 line_unmatched ms more xs l is same = omega (arith, sym (ap marked is ∙ marked_more ms (Line l)), same)
 
 -- and with a node more or less
-pub node_matched : (ms more : List Mark) (xs ys : List Pending) (x : Pending) → more ≡ ms ++ Node ∷ [] → ys ≡ xs ++ x ∷ [] → AreMatched ms xs
+pub node_matched : (ms more : List TreeSlot) (xs ys : List Pending) (x : Pending) → more ≡ ms ++ Node ∷ [] → ys ≡ xs ++ x ∷ [] → AreMatched ms xs
     → AreMatched more ys
 node_matched ms more xs ys x is are same =
     ap marked is ∙ marked_more ms Node ∙ omega (arith, same, length_push xs x) ∙ sym (ap length are)
 
-pub node_unmatched : (ms more : List Mark) (xs ys : List Pending) (x : Pending) → more ≡ ms ++ Node ∷ [] → ys ≡ xs ++ x ∷ [] → AreMatched more ys
+pub node_unmatched : (ms more : List TreeSlot) (xs ys : List Pending) (x : Pending) → more ≡ ms ++ Node ∷ [] → ys ≡ xs ++ x ∷ [] → AreMatched more ys
     → AreMatched ms xs
 node_unmatched ms more xs ys x is are same =
     omega (arith, sym (ap marked is ∙ marked_more ms Node), same, ap length are, length_push xs x)
 
 -- there is a node for a mark that stands for one
-pub node_there : (ms more : List Mark) (xs : List Pending) → more ≡ ms ++ Node ∷ [] → AreMatched more xs → 1 ≤ length xs
+pub node_there : (ms more : List TreeSlot) (xs : List Pending) → more ≡ ms ++ Node ∷ [] → AreMatched more xs → 1 ≤ length xs
 node_there ms more xs is same = omega (arith, sym (ap marked is ∙ marked_more ms Node), same)
 
 -- what is left with a line more
-pub left_line : (ms more : List Mark) (xs : List Pending) (l : model.TreeLine) → more ≡ ms ++ Line l ∷ [] → AreMatched ms xs
+pub left_line : (ms more : List TreeSlot) (xs : List Pending) (l : model.TreeLine) → more ≡ ms ++ Line l ∷ [] → AreMatched ms xs
     → placed more xs [] ≡ places.line (tree_line_of l) ∷ placed ms xs []
-left_line ms more xs l is same = ap (λ (ns : List Mark). placed ns xs []) is ∙ placed_line ms xs l [] same
+left_line ms more xs l is same = ap (λ (ns : List TreeSlot). placed ns xs []) is ∙ placed_line ms xs l [] same
 
 -- what is left with a node more
-pub left_node : (ms more : List Mark) (xs ys : List Pending) (x : Pending) → more ≡ ms ++ Node ∷ [] → ys ≡ xs ++ x ∷ [] → AreMatched ms xs
+pub left_node : (ms more : List TreeSlot) (xs ys : List Pending) (x : Pending) → more ≡ ms ++ Node ∷ [] → ys ≡ xs ++ x ∷ [] → AreMatched ms xs
     → placed more ys [] ≡ places.open_at (pending_of x) ∷ placed ms xs []
 left_node ms more xs ys x is are same =
-    ap (λ (ns : List Mark). placed ns ys []) is ∙ ap (λ (zs : List Pending). placed (ms ++ Node ∷ []) zs []) are ∙ placed_node ms xs x [] same
+    ap (λ (ns : List TreeSlot). placed ns ys []) is ∙ ap (λ (zs : List Pending). placed (ms ++ Node ∷ []) zs []) are ∙ placed_node ms xs x [] same
 
 -- nothing is left where no mark is
-pub left_none : (ms : List Mark) (xs : List Pending) → ms ≡ [] → placed ms xs [] ≡ []
-left_none ms xs none = ap (λ (ns : List Mark). placed ns xs []) none
+pub left_none : (ms : List TreeSlot) (xs : List Pending) → ms ≡ [] → placed ms xs [] ≡ []
+left_none ms xs none = ap (λ (ns : List TreeSlot). placed ns xs []) none
 
 -- ---- what holds of all
 

@@ -21,9 +21,9 @@ use Rattle.search_spec.proofs.Leading.{Leads, tree_is}
 use Rattle.search_spec.proofs.WholeRounds.{root_stands, root_turns, last_is}
 use Rattle.search_spec.proofs.RoundCases.{rounds_step, rounds_over}
 use Rattle.node_rounds.specs.declared.outcomes.Pending.{Pending}
-use Rattle.node_rounds.specs.declared.fronts.Front.{Front}
-use Rattle.node_rounds.specs.declared.left.Mark.{Mark}
-use Rattle.node_rounds.specs.declared.left.Mark.TheVariants.{Line, Node}
+use Rattle.node_rounds.specs.declared.fronts.RoundState.{RoundState}
+use Rattle.node_rounds.specs.declared.left.TreeSlot.{TreeSlot}
+use Rattle.node_rounds.specs.declared.left.TreeSlot.TheVariants.{Line, Node}
 use Rattle.node_rounds.specs.declared.left.Left.{Left}
 use Rattle.node_rounds.specs.Outcomes.{pending_of, IsPendingOf}
 use Rattle.node_rounds.specs.Left.{AreMatched, placed, left_of, lines_first, standing_of, IsLeft}
@@ -34,20 +34,20 @@ pending_lines : (ls : List TreeLine) (after : List places.Place) → has_pending
 pending_lines [] after = refl
 pending_lines (l ∷ ls) after = pending_lines ls after
 
-pending_placed : (ms : List Mark) (xs : List Pending) (after : List places.Place) → AreMatched ms xs → 1 ≤ length xs → has_pending (placed ms xs after) ≡ true
+pending_placed : (ms : List TreeSlot) (xs : List Pending) (after : List places.Place) → AreMatched ms xs → 1 ≤ length xs → has_pending (placed ms xs after) ≡ true
 pending_placed ms [] after matched some = absurd (omega (arith, some))
 pending_placed [] (x ∷ xs) after matched some = absurd (omega (arith, matched))
 pending_placed (Line l ∷ ms) (x ∷ xs) after matched some = pending_placed ms (x ∷ xs) (line (tree_line_of l) ∷ after) matched some
 pending_placed (Node ∷ ms) (x ∷ xs) after matched some = pending_after ms xs (open_at (pending_of x) ∷ after) (omega (arith, matched)) refl
   where
-    pending_after : (ms : List Mark) (xs : List Pending) (after : List places.Place) → AreMatched ms xs → has_pending after ≡ true
+    pending_after : (ms : List TreeSlot) (xs : List Pending) (after : List places.Place) → AreMatched ms xs → has_pending after ≡ true
         → has_pending (placed ms xs after) ≡ true
     pending_after [] xs after matched is = is
     pending_after (Line l ∷ ms) xs after matched is = pending_after ms xs (line (tree_line_of l) ∷ after) matched is
     pending_after (Node ∷ ms) [] after matched is = absurd (omega (arith, matched))
     pending_after (Node ∷ ms) (y ∷ ys) after matched is = pending_after ms ys (open_at (pending_of y) ∷ after) (omega (arith, matched)) refl
 
-none_placed : (ms : List Mark) (after : List places.Place) → AreMatched ms [] → has_pending after ≡ false → has_pending (placed ms [] after) ≡ false
+none_placed : (ms : List TreeSlot) (after : List places.Place) → AreMatched ms [] → has_pending after ≡ false → has_pending (placed ms [] after) ≡ false
 none_placed [] after matched is = is
 none_placed (Line l ∷ ms) after matched is = none_placed ms (line (tree_line_of l) ∷ after) matched is
 none_placed (Node ∷ ms) after matched is = absurd (omega (arith, matched))
@@ -80,7 +80,7 @@ stopped_when p s left stopped = by (has_pending (lines_first s.lines.items (left
 -- ---- the rounds
 
 -- the rounds from here on end as those of the whole search do
-pub record IsSearching (t : Task) (s₀ : Progress) (front : Front) (left : Left) : Type 0 where
+pub record IsSearching (t : Task) (s₀ : Progress) (front : RoundState) (left : Left) : Type 0 where
   pub rest : rounds (turns_of (length t.instance.now.candidates)) t.instance.now (parts_of t.instance.now) t.nodes (standing_of t.instance.now front.progress left)
       ≡ stood t.instance.now (parts_of t.instance.now) t.nodes (state_of t.instance.now s₀)
   pub stands : IsStanding t.instance.now t.nodes (root t.instance.now) (state_of t.instance.now s₀).made (standing_of t.instance.now front.progress left)
@@ -97,7 +97,7 @@ standing_first p s left no_line only =
     (ap (λ (ls : List TreeLine). map line ls ++ left_of left) no_line ∙ only)
 
 -- the root alone is left
-pub searching_first : (t : Task) (front : Front) (left : Left) → IsStart t.instance.now (state_of t.instance.now front.progress) → IsGoing t front.progress
+pub searching_first : (t : Task) (front : RoundState) (left : Left) → IsStart t.instance.now (state_of t.instance.now front.progress) → IsGoing t front.progress
     → lines_of front.progress.lines.items ≡ [] → left_of left ≡ open_at (fresh (root t.instance.now) []) ∷ []
     → All (IsPendingOf t.instance.now front.progress.pool.entries) left.nodes.items → AreMatched left.marks.items left.nodes.items → front.places.items ≡ []
     → IsSearching t front.progress front left
@@ -115,7 +115,7 @@ searching_first t front left start going no_line only nodes matched none =
     }
 
 -- a round more
-pub searching_next : (t : Task) (s₀ : Progress) (front front' : Front) (left left' : Left) → IsSearching t s₀ front left
+pub searching_next : (t : Task) (s₀ : Progress) (front front' : RoundState) (left left' : Left) → IsSearching t s₀ front left
     → goes_on (standing_of t.instance.now front.progress left) ≡ true
     → standing_of t.instance.now front'.progress left' ≡ next_round t.instance.now (parts_of t.instance.now) t.nodes (standing_of t.instance.now front.progress left)
     → IsLeft t front'.progress left' → front'.places.items ≡ [] → IsSearching t s₀ front' left'
@@ -137,7 +137,7 @@ searching_next t s₀ front front' left left' is more next is_left none =
     }
 
 -- the turns that are left are fewer
-pub searching_fewer : (t : Task) (s₀ : Progress) (front front' : Front) (left left' : Left) → IsSearching t s₀ front left
+pub searching_fewer : (t : Task) (s₀ : Progress) (front front' : RoundState) (left left' : Left) → IsSearching t s₀ front left
     → goes_on (standing_of t.instance.now front.progress left) ≡ true
     → standing_of t.instance.now front'.progress left' ≡ next_round t.instance.now (parts_of t.instance.now) t.nodes (standing_of t.instance.now front.progress left)
     → turns_left (parts_of t.instance.now) (state_of t.instance.now front'.progress) (lines_first front'.progress.lines.items (left_of left'))
@@ -152,7 +152,7 @@ searching_fewer t s₀ front front' left left' is more next =
 -- ---- the end
 
 -- what stands where no round follows is what stands at the end
-pub searching_over : (t : Task) (s₀ : Progress) (front : Front) (left : Left) → IsSearching t s₀ front left
+pub searching_over : (t : Task) (s₀ : Progress) (front : RoundState) (left : Left) → IsSearching t s₀ front left
     → goes_on (standing_of t.instance.now front.progress left) ≡ false
     → standing_of t.instance.now front.progress left ≡ stood t.instance.now (parts_of t.instance.now) t.nodes (state_of t.instance.now s₀)
 searching_over t s₀ front left is over =

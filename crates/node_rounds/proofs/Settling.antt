@@ -11,8 +11,8 @@ use Rattle.search_steps.specs.Progressing.{IsGoing}
 use Rattle.node_rounds.specs.declared.outcomes.Pending.{Pending}
 use Rattle.node_rounds.specs.declared.fronts.Place.{Place}
 use Rattle.node_rounds.specs.declared.fronts.Place.TheVariants as place
-use Rattle.node_rounds.specs.declared.left.Mark.{Mark}
-use Rattle.node_rounds.specs.declared.left.Mark.TheVariants.{Line, Node}
+use Rattle.node_rounds.specs.declared.left.TreeSlot.{TreeSlot}
+use Rattle.node_rounds.specs.declared.left.TreeSlot.TheVariants.{Line, Node}
 use Rattle.node_rounds.specs.declared.left.Left.{Left}
 use Rattle.node_rounds.specs.Outcomes.{IsPendingOf}
 use Rattle.node_rounds.specs.Fronts.{places_of, IsPlaceOf}
@@ -32,7 +32,7 @@ pub back_first : (left : Left) (places : List Place) → AreMatched left.marks.i
 back_first left places matched = record { same = refl; matched = matched; each = λ p entries are nodes. (are, nodes) }
 
 -- a line
-pub back_line : (before : Left) (given : List Place) (left : Left) (marks : Vec Mark Global) (rest all : List Place) (x : Place) (l : model.TreeLine)
+pub back_line : (before : Left) (given : List Place) (left : Left) (marks : Vec TreeSlot Global) (rest all : List Place) (x : Place) (l : model.TreeLine)
     → IsPuttingBack before given left all → all ≡ rest ++ x ∷ [] → x ≡ place.Line l → marks.items ≡ left.marks.items ++ Line l ∷ []
     → IsPuttingBack before given (record { marks = marks; nodes = left.nodes }) rest
 back_line before given left marks rest all x l is ends line pushed =
@@ -46,7 +46,7 @@ back_line before given left marks rest all x l is ends line pushed =
     }
 
 -- a node
-pub back_node : (before : Left) (given : List Place) (left : Left) (marks : Vec Mark Global) (nodes : Vec Pending Global) (rest all : List Place) (x : Place) (node : Pending)
+pub back_node : (before : Left) (given : List Place) (left : Left) (marks : Vec TreeSlot Global) (nodes : Vec Pending Global) (rest all : List Place) (x : Place) (node : Pending)
     → IsPuttingBack before given left all → all ≡ rest ++ x ∷ [] → x ≡ place.Open node → marks.items ≡ left.marks.items ++ Node ∷ []
     → nodes.items ≡ left.nodes.items ++ node ∷ [] → IsPuttingBack before given (record { marks = marks; nodes = nodes }) rest
 back_node before given left marks nodes rest all x node is ends opens pushed more =
@@ -77,11 +77,11 @@ pub settling_first : (left : Left) (lines : List model.TreeLine) → AreMatched 
 settling_first left lines matched few = record { same = refl; matched = matched; nodes = refl; few = few }
 
 -- a line
-pub settle_line : (before : Left) (done : List model.TreeLine) (left : Left) (marks : Vec Mark Global) (lines more : List model.TreeLine) (x : Mark) (l : model.TreeLine)
+pub settle_line : (before : Left) (done : List model.TreeLine) (left : Left) (marks : Vec TreeSlot Global) (lines more : List model.TreeLine) (x : TreeSlot) (l : model.TreeLine)
     → IsSettling before done left lines → left.marks.items ≡ marks.items ++ x ∷ [] → x ≡ Line l → more ≡ lines ++ l ∷ [] → length more ≤ most_tree_lines
     → IsSettling before done (record { marks = marks; nodes = left.nodes }) more
 settle_line before done left marks lines more x l is ends line pushed few =
-    let now = ends ∙ ap (λ (y : Mark). marks.items ++ y ∷ []) line in
+    let now = ends ∙ ap (λ (y : TreeSlot). marks.items ++ y ∷ []) line in
     let matched = line_unmatched marks.items left.marks.items left.nodes.items l now is.matched in
     record {
       same = one_settled lines more l (left_of (record { marks = marks; nodes = left.nodes })) (left_of left) pushed

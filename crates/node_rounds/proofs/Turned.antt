@@ -22,9 +22,9 @@ use Rattle.search_spec.specs.Turns.{taken, turns_taken, next_round, most_turns}
 use Rattle.search_spec.proofs.RoundCases.{turned_lines, turned_stopped, turned_none, turned_first}
 use Rattle.node_rounds.specs.declared.outcomes.Pending.{Pending}
 use Rattle.node_rounds.specs.declared.outcomes.Outcome.{Outcome}
-use Rattle.node_rounds.specs.declared.fronts.Front.{Front}
-use Rattle.node_rounds.specs.declared.left.Mark.{Mark}
-use Rattle.node_rounds.specs.declared.left.Mark.TheVariants.{Line, Node}
+use Rattle.node_rounds.specs.declared.fronts.RoundState.{RoundState}
+use Rattle.node_rounds.specs.declared.left.TreeSlot.{TreeSlot}
+use Rattle.node_rounds.specs.declared.left.TreeSlot.TheVariants.{Line, Node}
 use Rattle.node_rounds.specs.declared.left.Left.{Left}
 use Rattle.node_rounds.specs.Outcomes.{pending_of, IsPendingOf, outcome_of, IsTurnOf, IsOutcomeOf}
 use Rattle.node_rounds.specs.Fronts.{places_of, IsPlaceOf, IsFront, IsTaken}
@@ -71,7 +71,7 @@ abbrev joined : List model.TreeLine → List places.Place → Standing → Stand
 joined lines front t = record { state = t.state; places = lines_first lines (front ++ t.places) }
 
 -- where all that is left are lines, nothing is taken
-only_lines : (p : Problem) (parts : Parts) (n : Option ℕ) (start : State) (count : ℕ) (ms : List Mark) (after : List places.Place) (s : State) → marked ms ≡ 0
+only_lines : (p : Problem) (parts : Parts) (n : Option ℕ) (start : State) (count : ℕ) (ms : List TreeSlot) (after : List places.Place) (s : State) → marked ms ≡ 0
     → turns_taken p parts n start count after s ≡ record { state = s; places = after }
     → turns_taken p parts n start count (placed ms [] after) s ≡ record { state = s; places = placed ms [] after }
 only_lines p parts n start count [] after s none same = same
@@ -102,7 +102,7 @@ nothing_taken p parts n start (suc count) left s matched few = by left.nodes.ite
 -- ---- by the code
 
 -- what was taken so far, with the turns that are left by the definition
-pub record IsTurning (t : Task) (s₀ : Progress) (left₀ : Left) (front : Front) (left : Left) (os : List Outcome) : Type 0 where
+pub record IsTurning (t : Task) (s₀ : Progress) (left₀ : Left) (front : RoundState) (left : Left) (os : List Outcome) : Type 0 where
   pub count : ℕ
   pub round : joined front.progress.lines.items (places_of front.places.items)
       (turns_taken t.instance.now (parts_of t.instance.now) t.nodes (state_of t.instance.now s₀) count (left_of left) (state_of t.instance.now front.progress))
@@ -113,7 +113,7 @@ pub record IsTurning (t : Task) (s₀ : Progress) (left₀ : Left) (front : Fron
   pub turns : AreTurns t.instance.now s₀ left.nodes.items os
   pub kept : HasGrown s₀.pool.entries front.progress.pool.entries
 
-pub turning_first : (t : Task) (front : Front) (left : Left) (os : List Outcome) → IsLeft t front.progress left → front.places.items ≡ []
+pub turning_first : (t : Task) (front : RoundState) (left : Left) (os : List Outcome) → IsLeft t front.progress left → front.places.items ≡ []
     → AreTurns t.instance.now front.progress left.nodes.items os → length os ≡ min (length left.nodes.items) most_turns
     → IsTurning t front.progress left front left os
 unfolding next_round
@@ -142,7 +142,7 @@ added_first lines more front front' x t same is =
     ∙ ap (λ (ps : List places.Place). (let u : Standing = record { state = t.state; places = lines_first lines ps } in u)) (append_assoc front x t.places)
 
 -- the next place is a line
-pub turning_line : (t : Task) (s₀ : Progress) (left₀ : Left) (front front' : Front) (left left' : Left) (os : List Outcome) (l : model.TreeLine)
+pub turning_line : (t : Task) (s₀ : Progress) (left₀ : Left) (front front' : RoundState) (left left' : Left) (os : List Outcome) (l : model.TreeLine)
     → IsTurning t s₀ left₀ front left os → left.marks.items ≡ left'.marks.items ++ Line l ∷ [] → left'.nodes ≡ left.nodes
     → IsTaken t front front' (record { state = state_of t.instance.now front.progress; places = line (tree_line_of l) ∷ [] })
     → IsTurning t s₀ left₀ front' left' os
@@ -207,7 +207,7 @@ last_turn p s nodes rest x os later o are ends is =
     )
 
 -- the next place is a node, whose outcome is taken
-pub turning_node : (t : Task) (s₀ : Progress) (left₀ : Left) (front front' : Front) (left left' : Left) (os later : List Outcome) (x : Pending) (o : Outcome)
+pub turning_node : (t : Task) (s₀ : Progress) (left₀ : Left) (front front' : RoundState) (left left' : Left) (os later : List Outcome) (x : Pending) (o : Outcome)
     → IsTurning t s₀ left₀ front left os → is_stopped (state_of t.instance.now front.progress) ≡ false
     → left.marks.items ≡ left'.marks.items ++ Node ∷ [] → left.nodes.items ≡ left'.nodes.items ++ x ∷ [] → os ≡ later ++ o ∷ []
     → IsTaken t front front' (taken t.instance.now (parts_of t.instance.now) t.nodes (pending_of x) (outcome_of o) (state_of t.instance.now front.progress))
@@ -254,7 +254,7 @@ turning_node t s₀ left₀ front front' left left' os later x o is going marks 
     }
 
 -- no outcome is left, or the search is stopped
-pub turning_over : (t : Task) (s₀ : Progress) (left₀ : Left) (front : Front) (left : Left) (os : List Outcome) → IsTurning t s₀ left₀ front left os
+pub turning_over : (t : Task) (s₀ : Progress) (left₀ : Left) (front : RoundState) (left : Left) (os : List Outcome) → IsTurning t s₀ left₀ front left os
     → (is_stopped (state_of t.instance.now front.progress) ≡ false → os ≡ [])
     → record {
       state = state_of t.instance.now front.progress;

@@ -10,7 +10,7 @@ use Rattle.search_steps.specs.Progressing.{state_of, IsGoing}
 use Rattle.search_spec.specs.Places as places
 use Rattle.node_rounds.specs.declared.fronts.Place.{Place}
 use Rattle.node_rounds.specs.declared.fronts.Place.TheVariants.{Line, Open}
-use Rattle.node_rounds.specs.declared.fronts.Front.{Front}
+use Rattle.node_rounds.specs.declared.fronts.RoundState.{RoundState}
 use Rattle.node_rounds.specs.Outcomes.{pending_of, IsPendingOf}
 
 -- the place as the definition has it
@@ -27,12 +27,12 @@ IsPlaceOf p entries (Line l) = Unit {0}
 IsPlaceOf p entries (Open x) = IsPendingOf p entries x
 
 -- the search goes on, and the nodes of the front are the problem's
-pub record IsFront (t : Task) (f : Front) : Type 0 where
+pub record IsFront (t : Task) (f : RoundState) : Type 0 where
   pub going : IsGoing t f.progress
   pub nodes : All (IsPlaceOf t.instance.now f.progress.pool.entries) f.places.items
 
 -- the search goes on from this state, with all its cuts, and these places were added
-pub record IsTaken (t : Task) (before after : Front) (x : places.Standing) : Type 0 where
+pub record IsTaken (t : Task) (before after : RoundState) (x : places.Standing) : Type 0 where
   pub state : state_of t.instance.now after.progress ≡ x.state
   pub places : places_of after.places.items ≡ places_of before.places.items ++ x.places
   pub lines : lines_of after.progress.lines.items ≡ lines_of before.progress.lines.items

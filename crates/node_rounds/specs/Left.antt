@@ -11,24 +11,24 @@ use Rattle.search_steps.specs.declared.progress.Progress.{Progress}
 use Rattle.search_spec.specs.Places as places
 use Rattle.search_spec.specs.Turns.{most_turns}
 use Rattle.node_rounds.specs.declared.outcomes.Pending.{Pending}
-use Rattle.node_rounds.specs.declared.left.Mark.{Mark}
-use Rattle.node_rounds.specs.declared.left.Mark.TheVariants.{Line, Node}
+use Rattle.node_rounds.specs.declared.left.TreeSlot.{TreeSlot}
+use Rattle.node_rounds.specs.declared.left.TreeSlot.TheVariants.{Line, Node}
 use Rattle.node_rounds.specs.declared.left.Left.{Left}
 use Rattle.node_rounds.specs.declared.outcomes.Outcome.{Outcome}
 use Rattle.node_rounds.specs.Outcomes.{pending_of, IsPendingOf, IsTurnOf, IsOutcomeOf}
 
 -- how many of the marks stand for a node
-abbrev pub marked : List Mark → ℕ
+abbrev pub marked : List TreeSlot → ℕ
 marked [] = 0
 marked (Line l ∷ ms) = marked ms
 marked (Node ∷ ms) = marked ms + 1
 
 -- there is a node for each mark that stands for one
-abbrev pub AreMatched : List Mark → List Pending → Type 0
+abbrev pub AreMatched : List TreeSlot → List Pending → Type 0
 AreMatched ms xs = marked ms ≡ length xs
 
 -- the places that marks and nodes stand for, the last first, before further places
-abbrev pub placed : List Mark → List Pending → List places.Place → List places.Place
+abbrev pub placed : List TreeSlot → List Pending → List places.Place → List places.Place
 placed [] xs after = after
 placed (Line l ∷ ms) xs after = placed ms xs (places.line (tree_line_of l) ∷ after)
 placed (Node ∷ ms) [] after = after

@@ -12,7 +12,7 @@ ghost use Rattle.search_spec.specs.Turns.{closed_up};
 ghost use Rattle.node_rounds.specs.Outcomes.{IsPendingOf};
 ghost use Rattle.node_rounds.specs.Left.{standing_of, IsLeft};
 
-use crate::left::{Left, Mark};
+use crate::left::{Left, TreeSlot};
 use crate::outcomes::Pending;
 use hub_model::TreeLine;
 use search_core::{Task, add_line};
@@ -40,8 +40,8 @@ pub(crate) fn close_up(
     } = left;
     while let Some(mark) = marks.pop() {
         let line = match mark {
-            Mark::Line(line) => line,
-            Mark::Node => match nodes.pop() {
+            TreeSlot::Line(line) => line,
+            TreeSlot::Node => match nodes.pop() {
                 Some(node) => end_node(alloc, task, progress, &node)?,
                 None => unreachable!(),
             },

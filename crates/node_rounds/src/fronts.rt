@@ -28,13 +28,13 @@ pub(crate) enum Place {
 
 /// What the search has, and what came of the nodes of a round so far, in preorder.
 #[derive(Drop)]
-pub(crate) struct Front {
+pub(crate) struct RoundState {
     pub(crate) progress: Progress,
     pub(crate) places: Vec<Place>,
 }
 
 /// Adds a finished line.
-pub(crate) fn add_line(task: &Task, front: &mut Front, own: TreeLine) -> Result<(), AllocError>
+pub(crate) fn add_line(task: &Task, front: &mut RoundState, own: TreeLine) -> Result<(), AllocError>
     requires front { IsFront task.now front.old }
     ensures { let p = task.now.instance.now in OnOk result (IsTaken task.now front.old front.new
         (record { state = state_of p front.old.progress; places = line (tree_line_of own) ∷ [] })) }
@@ -44,7 +44,7 @@ pub(crate) fn add_line(task: &Task, front: &mut Front, own: TreeLine) -> Result<
 }
 
 /// Adds a pending node.
-pub(crate) fn add_node(task: &Task, front: &mut Front, node: Pending) -> Result<(), AllocError>
+pub(crate) fn add_node(task: &Task, front: &mut RoundState, node: Pending) -> Result<(), AllocError>
     requires front { IsFront task.now front.old }
     requires node { IsPendingOf task.now.instance.now front.old.progress.pool.entries node }
     ensures { let p = task.now.instance.now in OnOk result (IsTaken task.now front.old front.new
@@ -55,7 +55,7 @@ pub(crate) fn add_node(task: &Task, front: &mut Front, node: Pending) -> Result<
 }
 
 /// Adds the line of a branch on the node, which makes two nodes more.
-pub(crate) fn add_branch(task: &Task, front: &mut Front, k: u32) -> Result<(), AllocError>
+pub(crate) fn add_branch(task: &Task, front: &mut RoundState, k: u32) -> Result<(), AllocError>
     requires front { IsFront task.now front.old }
     ensures { let p = task.now.instance.now in OnOk result (IsTaken task.now front.old front.new
         (record { state = two_more (state_of p front.old.progress); places = line (branch_on k) ∷ [] })) }
@@ -69,7 +69,7 @@ pub(crate) fn add_branch(task: &Task, front: &mut Front, k: u32) -> Result<(), A
 pub(crate) fn stop_at(
     alloc: Global,
     task: &Task,
-    front: &mut Front,
+    front: &mut RoundState,
     node: &Pending,
 ) -> Result<(), AllocError>
     requires plain { task.now.instance.now.wanted ≡ None }

@@ -16,7 +16,7 @@ use std::alloc::AllocError;
 
 /// What stands at a place of the tree: a finished line, or the next of the nodes.
 #[derive(Drop)]
-pub(crate) enum Mark {
+pub(crate) enum TreeSlot {
     /// A finished line.
     Line(TreeLine),
     /// The next pending node.
@@ -27,7 +27,7 @@ pub(crate) enum Mark {
 /// by side.
 #[derive(Drop)]
 pub(crate) struct Left {
-    pub(crate) marks: Vec<Mark>,
+    pub(crate) marks: Vec<TreeSlot>,
     pub(crate) nodes: Vec<Pending>,
 }
 
@@ -42,9 +42,9 @@ pub(crate) fn put_back(left: &mut Left, places: &mut Vec<Place>) -> Result<(), A
 {
     while let Some(place) = places.pop() {
         match place {
-            Place::Line(line) => left.marks.push(Mark::Line(line))?,
+            Place::Line(line) => left.marks.push(TreeSlot::Line(line))?,
             Place::Open(node) => {
-                left.marks.push(Mark::Node)?;
+                left.marks.push(TreeSlot::Node)?;
                 left.nodes.push(node)?;
             }
         }
@@ -63,9 +63,9 @@ pub(crate) fn settle(left: &mut Left, lines: &mut Vec<TreeLine>) -> Result<(), A
 {
     while let Some(mark) = left.marks.pop() {
         match mark {
-            Mark::Line(line) => add_line(lines, line)?,
-            Mark::Node => {
-                left.marks.push(Mark::Node)?;
+            TreeSlot::Line(line) => add_line(lines, line)?,
+            TreeSlot::Node => {
+                left.marks.push(TreeSlot::Node)?;
                 return Ok(());
             }
         }

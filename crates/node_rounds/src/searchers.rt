@@ -20,7 +20,7 @@ use crate::left::Left;
 use crate::outcomes::{Outcome, Pending};
 use crate::posts::{Worked, into_outcome};
 use crate::searching::search_by;
-use crate::turners::{MOST_TURNS, Turner, Workers, turned};
+use crate::turners::{MOST_TURNS, RoundWorkers, Turner, turned};
 use crate::turning::turn_ahead;
 use desks::{Desk, Partner, Tickets, desks};
 use hub_io::Gate;
@@ -195,7 +195,7 @@ impl<'s, 'a> Searcher<'s, 'a> {
 
 // The whole search by the searcher at this endpoint.
 fn search_at<'a, R: Threads + Sync, G: Gate>(
-    workers: &Workers<R, G>,
+    workers: &RoundWorkers<R, G>,
     alloc: Global,
     task: &Task<'a>,
     tickets: &Tickets,
@@ -227,7 +227,7 @@ fn search_at<'a, R: Threads + Sync, G: Gate>(
 
 // The same, with its end known to the others: once it is done none waits for it, and if it gives up so do they.
 fn search_to_end<'a, R: Threads + Sync, G: Gate>(
-    workers: &Workers<R, G>,
+    workers: &RoundWorkers<R, G>,
     alloc: Global,
     task: &Task<'a>,
     tickets: &Tickets,
@@ -264,7 +264,7 @@ fn last_desk<'a>(
 // The whole search by the searcher at the last endpoint, beside those at the others.
 #[cycle(together)]
 fn together<'a, R: Threads + Sync, G: Gate>(
-    workers: &Workers<R, G>,
+    workers: &RoundWorkers<R, G>,
     alloc: Global,
     task: &Task<'a>,
     tickets: &Tickets,
@@ -297,7 +297,7 @@ fn together<'a, R: Threads + Sync, G: Gate>(
 
 /// All that the workers find as searchers side by side, at most 8, each in a thread of its own where one can be made.
 pub(crate) fn side_by_side<R: Threads + Sync, G: Gate>(
-    workers: &Workers<R, G>,
+    workers: &RoundWorkers<R, G>,
     alloc: Global,
     task: &Task,
 ) -> Result<Progress, AllocError>

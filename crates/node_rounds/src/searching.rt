@@ -22,12 +22,12 @@ ghost use Rattle.node_rounds.specs.Findings.{found_by_rounds};
 ghost use Rattle.node_rounds.specs.Searchers.{first_state, IsWholeSearch, IsTurnerAt};
 
 use crate::closing::close_up;
-use crate::fronts::{Front, add_line};
-use crate::left::{Left, Mark, put_back, settle};
+use crate::fronts::{RoundState, add_line};
+use crate::left::{Left, TreeSlot, put_back, settle};
 use crate::outcomes::{Outcome, Pending};
 use crate::searchers::side_by_side;
 use crate::taking::take;
-use crate::turners::{Turner, Workers};
+use crate::turners::{RoundWorkers, Turner};
 use cut_pool::Found;
 use hub_io::Gate;
 use hub_model::{Branch, Instance};
@@ -86,7 +86,7 @@ pub fn search_rounds<R: Threads + Sync, S: Separator, G: Gate>(
 {
     keep_blocks(alloc);
     let task = Task { instance, nodes };
-    let workers = Workers {
+    let workers = RoundWorkers {
         rt,
         count: workers,
         gate,
@@ -97,7 +97,7 @@ pub fn search_rounds<R: Threads + Sync, S: Separator, G: Gate>(
 
 // All that the search finds: by searchers side by side where turns are short, else by workers that meet for each round.
 fn searched<R: Threads + Sync, S: Separator, G: Gate>(
-    workers: &Workers<R, G>,
+    workers: &RoundWorkers<R, G>,
     alloc: Global,
     task: &Task,
     separator: &mut S,
@@ -125,7 +125,7 @@ fn keep_blocks(alloc: Global) {
 
 /// All that the search finds, where this turner evaluates the nodes of its rounds.
 pub(crate) fn search_by<R: Threads + Sync, G: Gate, S: Separator>(
-    workers: &Workers<R, G>,
+    workers: &RoundWorkers<R, G>,
     mut turner: Turner,
     alloc: Global,
     task: &Task,
@@ -147,7 +147,7 @@ pub(crate) fn search_by<R: Threads + Sync, G: Gate, S: Separator>(
 
 // All rounds of the search that goes on from here, with the root still to be handled, and the lines of its tree.
 fn all_rounds<R: Threads + Sync, G: Gate, S: Separator>(
-    workers: &Workers<R, G>,
+    workers: &RoundWorkers<R, G>,
     turner: &mut Turner,
     alloc: Global,
     task: &Task,
@@ -172,7 +172,7 @@ fn all_rounds<R: Threads + Sync, G: Gate, S: Separator>(
     ensures going { IfOk result (IsGoing task.now) }
 {
     let mut left = at_root(alloc, task.instance)?;
-    let mut front = Front {
+    let mut front = RoundState {
         progress,
         places: Vec::new(alloc),
     };
@@ -181,7 +181,7 @@ fn all_rounds<R: Threads + Sync, G: Gate, S: Separator>(
             workers, turner, alloc, task, separator, &mut left, &mut front,
         )?;
     }
-    let Front {
+    let RoundState {
         mut progress,
         places: _,
     } = front;
@@ -202,7 +202,7 @@ fn at_root(alloc: Global, instance: &Instance) -> Result<Left, AllocError>
         waits: 0,
     };
     let mut marks = Vec::new(alloc);
-    marks.push(Mark::Node)?;
+    marks.push(TreeSlot::Node)?;
     let mut nodes = Vec::new(alloc);
     nodes.push(node)?;
     Ok(Left { marks, nodes })
@@ -210,13 +210,13 @@ fn at_root(alloc: Global, instance: &Instance) -> Result<Left, AllocError>
 
 // One round: the first nodes have their turns, and what comes of each is put in its place.
 fn one_round<R: Threads + Sync, G: Gate, S: Separator>(
-    workers: &Workers<R, G>,
+    workers: &RoundWorkers<R, G>,
     turner: &mut Turner,
     alloc: Global,
     task: &Task,
     separator: &mut S,
     left: &mut Left,
-    front: &mut Front,
+    front: &mut RoundState,
 ) -> Result<(), AllocError>
     requires plain { task.now.instance.now.wanted ≡ None }
     requires minimal { S.kind ≡ minimal }
@@ -243,7 +243,7 @@ fn take_round<S: Separator>(
     task: &Task,
     separator: &mut S,
     left: &mut Left,
-    front: &mut Front,
+    front: &mut RoundState,
     outcomes: Vec<Outcome>,
 ) -> Result<(), AllocError>
     requires plain { task.now.instance.now.wanted ≡ None }
@@ -270,7 +270,7 @@ fn take_all<S: Separator>(
     task: &Task,
     separator: &mut S,
     left: &mut Left,
-    front: &mut Front,
+    front: &mut RoundState,
     mut outcomes: Vec<Outcome>,
 ) -> Result<(), AllocError>
     requires plain { task.now.instance.now.wanted ≡ None }
@@ -290,8 +290,8 @@ fn take_all<S: Separator>(
 {
     while !outcomes.is_empty() && front.progress.stop.is_none() {
         match left.marks.pop() {
-            Some(Mark::Line(line)) => add_line(task, front, line)?,
-            Some(Mark::Node) => match (left.nodes.pop(), outcomes.pop()) {
+            Some(TreeSlot::Line(line)) => add_line(task, front, line)?,
+            Some(TreeSlot::Node) => match (left.nodes.pop(), outcomes.pop()) {
                 (Some(node), Some(outcome)) => {
                     take(alloc, task, separator, front, node, outcome)?
                 }

@@ -10,7 +10,7 @@ ghost use Rattle.search_spec.specs.Turns.{halved, after_fixings, split_up};
 ghost use Rattle.node_rounds.specs.Outcomes.{pending_of, IsPendingOf};
 ghost use Rattle.node_rounds.specs.Fronts.{IsFront, IsTaken};
 
-use crate::fronts::{Front, add_branch, add_line, add_node, stop_at};
+use crate::fronts::{RoundState, add_branch, add_line, add_node, stop_at};
 use crate::outcomes::Pending;
 use frac_master::Advice;
 use leaf_bound::Side;
@@ -23,7 +23,7 @@ use std::alloc::{AllocError, Global};
 pub(crate) fn split_up(
     alloc: Global,
     task: &Task,
-    front: &mut Front,
+    front: &mut RoundState,
     fixings: &[(u32, Side)],
     advice: &Advice,
     node: Pending,
@@ -78,7 +78,7 @@ pub(crate) fn split_up(
 fn after_fixings(
     alloc: Global,
     task: &Task,
-    front: &mut Front,
+    front: &mut RoundState,
     advice: &Advice,
     node: Pending,
 ) -> Result<(), AllocError>
@@ -101,7 +101,7 @@ fn after_fixings(
 fn halved(
     alloc: Global,
     task: &Task,
-    front: &mut Front,
+    front: &mut RoundState,
     advice: &Advice,
     node: Pending,
 ) -> Result<(), AllocError>

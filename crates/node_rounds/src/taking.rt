@@ -11,7 +11,7 @@ ghost use Rattle.search_spec.specs.Turns.{with_set, taken};
 ghost use Rattle.node_rounds.specs.Outcomes.{pending_of, outcome_of, AreSumsOver, IsOutcomeOf};
 ghost use Rattle.node_rounds.specs.Fronts.{IsFront, IsTaken};
 
-use crate::fronts::{Front, add_line, add_node};
+use crate::fronts::{RoundState, add_line, add_node};
 use crate::outcomes::{Outcome, Pending};
 use crate::splitting::split_up;
 use cut_pool::CutSums;
@@ -25,7 +25,7 @@ pub(crate) fn take<S: Separator>(
     alloc: Global,
     task: &Task,
     separator: &mut S,
-    front: &mut Front,
+    front: &mut RoundState,
     node: Pending,
     outcome: Outcome,
 ) -> Result<(), AllocError>

@@ -32,7 +32,7 @@ pub(crate) fn turned(left: &Left) -> &[Pending]
 
 /// The workers of a search, and the gate that each of them passes once for each node that it draws.
 #[derive(Clone, Copy)]
-pub(crate) struct Workers<'a, R, G> {
+pub(crate) struct RoundWorkers<'a, R, G> {
     pub(crate) rt: &'a R,
     pub(crate) count: u32,
     pub(crate) gate: &'a G,
@@ -51,7 +51,7 @@ impl<'s, 'a> Turner<'s, 'a> {
     /// The evaluations of the nodes whose turn it is.
     pub(crate) fn turns<R: Threads + Sync, G: Gate>(
         &mut self,
-        workers: &Workers<R, G>,
+        workers: &RoundWorkers<R, G>,
         alloc: Global,
         task: &Task,
         progress: &Progress,
@@ -84,7 +84,7 @@ impl<'s, 'a> Turner<'s, 'a> {
 // The same by all workers. Where each has a node, the cuts that nodes ask for are separated along with the evaluations.
 // Else the separator runs as the outcomes are taken, since it may share a single cut among the workers.
 fn turns_by_crew<R: Threads + Sync, G: Gate>(
-    workers: &Workers<R, G>,
+    workers: &RoundWorkers<R, G>,
     alloc: Global,
     task: &Task,
     progress: &Progress,
@@ -98,7 +98,7 @@ fn turns_by_crew<R: Threads + Sync, G: Gate>(
     ensures sound { let s = progress.now in IfOk result (λ v.
         AllZip (IsOutcomeOf task.now.instance.now s.pool.entries) (turned_of left.now.nodes.items) v.items) }
 {
-    let Workers { rt, count, gate } = *workers;
+    let RoundWorkers { rt, count, gate } = *workers;
     let nodes = turned(left);
     let (instance, pool, cost) = (task.instance, &progress.pool, progress.cost);
     if nodes.len() < MOST_TURNS.min(count as usize) {

@@ -11,7 +11,7 @@ use std::alloc::{AllocError, Global};
 
 /// What a worker makes duals in: those of an origin by unit of flow, and one of them as it is handed on.
 #[derive(Drop)]
-pub(crate) struct DualScratch {
+pub(crate) struct OriginDualScratch {
     pub(crate) origin: OriginScratch,
     pub(crate) dual: DualBuffer,
 }
@@ -23,7 +23,7 @@ pub(crate) struct DualsByOrigin<'a> {
 }
 
 impl<'a> Job<Vec<Dual>> for DualsByOrigin<'a> {
-    type Scratch = DualScratch;
+    type Scratch = OriginDualScratch;
 
     ghost answer = { λ job i duals. AreMinimalDualsFrom job.separation.now i duals.items };
 
@@ -32,9 +32,9 @@ impl<'a> Job<Vec<Dual>> for DualsByOrigin<'a> {
     ghost serves = { λ job scratch. (job.separation.now.problem.size ≤ scratch.origin.room)
         × (job.separation.now.problem.size ≤ scratch.dual.room) };
 
-    fn new_scratch(&self, alloc: Global) -> Result<DualScratch, AllocError> {
+    fn new_scratch(&self, alloc: Global) -> Result<OriginDualScratch, AllocError> {
         let room = self.separation.instance().size() as usize;
-        Ok(DualScratch {
+        Ok(OriginDualScratch {
             origin: OriginScratch::new(alloc, room)?,
             dual: DualBuffer::new(alloc, room)?,
         })
@@ -43,10 +43,10 @@ impl<'a> Job<Vec<Dual>> for DualsByOrigin<'a> {
     fn at(
         &self,
         alloc: Global,
-        scratch: &mut DualScratch,
+        scratch: &mut OriginDualScratch,
         block: u32,
     ) -> Result<Vec<Dual>, AllocError> {
-        let DualScratch { origin, dual } = scratch;
+        let OriginDualScratch { origin, dual } = scratch;
         origin.work_out(self.separation, block);
         duals_from(alloc, self.separation, origin, block, dual)
     }

@@ -7,7 +7,7 @@ use Rattle.std.specs.List.{range_with_len}
 use Rattle.frac_rows.specs.Divisors.{divisor_of, reduced}
 use Rattle.frac_rows.specs.Rows.{Table, number, eliminated, is_wide_row, AreNarrow}
 use Rattle.frac_rows.specs.Stored.{piece}
-use Rattle.plain_rows.specs.declared.pivots.Pivot.{Pivot}
+use Rattle.plain_rows.specs.declared.pivots.FoldedPivot.{FoldedPivot}
 
 -- ---- a kept row, and the whole one
 
@@ -111,7 +111,7 @@ abbrev pub follows_of : ℕ → List ℤ → ℕ → List ℤ → List ℤ
 follows_of width base c row = reduced (eliminated (number base c) (cleared c row) (number row c) (base_of width base c))
 
 -- a pivot is made on one of so many rows, at a place where it has a number above 0, and the base is what is taken
-pub record IsPivot (outside height : ℕ) (numbers : List ℤ) (p : Pivot) : Type 0 where
+pub record IsPivot (outside height : ℕ) (numbers : List ℤ) (p : FoldedPivot) : Type 0 where
   pub row : p.row < height
   pub place : p.place < outside
   pub above : pos 0 <ℤ number (piece (outside + 2) numbers p.row) p.place

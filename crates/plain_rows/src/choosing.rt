@@ -11,7 +11,7 @@ use crate::parts::part;
 
 /// What decides whether a row leaves before another: its right side, its number in the entering column, and its basic column.
 #[derive(Clone, Copy)]
-struct Candidate {
+struct LeavingCandidate {
     right: i64,
     number: i64,
     basic: u32,
@@ -122,9 +122,9 @@ fn leaves_before(
     one.is_sooner(other)
 }
 
-impl Candidate {
+impl LeavingCandidate {
     // Whether it leaves before the other, by their ratios and then by their basic columns.
-    fn is_sooner(self, other: Candidate) -> bool
+    fn is_sooner(self, other: LeavingCandidate) -> bool
         ensures { result ≡ is_sooner self.right self.number self.basic other.right other.number other.basic }
     {
         let ratio = product(self.right, other.number);
@@ -133,14 +133,14 @@ impl Candidate {
     }
 }
 
-fn candidate_of(row: &[i64], place: usize, basic: u32) -> Candidate
+fn candidate_of(row: &[i64], place: usize, basic: u32) -> LeavingCandidate
     requires narrow { AreNarrow row.now }
     requires place { place + 2 < length row.now }
     ensures right { result.right ≡ number row.now (length row.now - 2) }
     ensures number { result.number ≡ number row.now place }
     ensures basic { result.basic ≡ basic }
 {
-    Candidate {
+    LeavingCandidate {
         right: row[row.len() - 2],
         number: row[place],
         basic,

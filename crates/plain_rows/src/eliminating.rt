@@ -6,11 +6,11 @@ ghost use Rattle.frac_rows.specs.Rows.{eliminated, is_wide_row, AreNarrow};
 ghost use Rattle.plain_rows.specs.Flat.{IsReduced};
 
 use crate::divisors::{gcd_128, quotient};
-use crate::multipliers::Multipliers;
+use crate::multipliers::RowMultipliers;
 use frac_rows::{WIDEST, Wide};
 
 /// Makes of the row what it becomes, divided by its greatest common divisor, unless a number of it would be beyond the limit.
-pub(crate) fn reduce(turn: Multipliers, base: &[i64], row: &mut [i64]) -> Result<(), Wide>
+pub(crate) fn reduce(turn: RowMultipliers, base: &[i64], row: &mut [i64]) -> Result<(), Wide>
     requires as_long { length base.now ≡ length row.old }
     requires narrow { AreNarrow row.old }
     requires narrow_base { AreNarrow base.now }
@@ -34,7 +34,7 @@ pub(crate) fn reduce(turn: Multipliers, base: &[i64], row: &mut [i64]) -> Result
 }
 
 // The same where nothing is to be divided.
-fn eliminate(turn: Multipliers, base: &[i64], row: &mut [i64]) -> Result<(), Wide>
+fn eliminate(turn: RowMultipliers, base: &[i64], row: &mut [i64]) -> Result<(), Wide>
     requires as_long { length base.now ≡ length row.old }
     requires narrow { AreNarrow row.old }
     requires narrow_base { AreNarrow base.now }
@@ -50,7 +50,7 @@ fn eliminate(turn: Multipliers, base: &[i64], row: &mut [i64]) -> Result<(), Wid
 }
 
 // The greatest common divisor of what the row becomes.
-fn common_divisor(turn: Multipliers, row: &[i64], base: &[i64]) -> u128
+fn common_divisor(turn: RowMultipliers, row: &[i64], base: &[i64]) -> u128
     requires as_long { length base.now ≡ length row.now }
     requires narrow { AreNarrow row.now }
     requires narrow_base { AreNarrow base.now }

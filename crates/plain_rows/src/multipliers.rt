@@ -7,14 +7,14 @@ use frac_rows::{WIDEST, Wide};
 
 /// What a row is multiplied by, and what the base row is multiplied by before it is taken from it.
 #[derive(Clone, Copy)]
-pub(crate) struct Multipliers {
+pub(crate) struct RowMultipliers {
     pub(crate) own: i64,
     pub(crate) base: i64,
     ghost own_limit: { unsigned_abs own ≤ widest },
     ghost base_limit: { unsigned_abs base ≤ widest },
 }
 
-impl Multipliers {
+impl RowMultipliers {
     /// What the number `x` becomes where the base row has `y`.
     pub(crate) fn cross(self, x: i64, y: i64) -> i128
         requires x_limit { unsigned_abs x ≤ widest }

@@ -8,14 +8,14 @@ ghost use Rattle.plain_rows.specs.Flat.{table_of, width_of, base_of, AreRows, Is
 
 use crate::choosing::{least_negative, leaving};
 use crate::eliminating::reduce;
-use crate::multipliers::Multipliers;
+use crate::multipliers::RowMultipliers;
 use crate::parts::part;
 use frac_rows::{Ended, Wide};
 use std::mem;
 
 /// A pivot: its row, its place, and what is taken from the other rows.
 #[derive(Clone, Copy)]
-struct Pivot<'a> {
+struct FoldedPivot<'a> {
     row: usize,
     place: usize,
     base: &'a [i64],
@@ -45,7 +45,7 @@ pub(crate) fn advance(
     };
     let places = outside.len();
     write_base(part(numbers, places + 2, row), place, base);
-    let pivot = Pivot { row, place, base };
+    let pivot = FoldedPivot { row, place, base };
     if let Err(Wide) = next_rows(numbers, places, basis.len() + 1, &pivot, spare) {
         return Some(Ended::Wide);
     }
@@ -91,7 +91,7 @@ fn next_rows(
     numbers: &[i64],
     places: usize,
     height: usize,
-    pivot: &Pivot<'_>,
+    pivot: &FoldedPivot<'_>,
     spare: &mut [i64],
 ) -> Result<(), Wide>
     requires rows { AreRows (places + 2) height numbers.now }
@@ -116,7 +116,7 @@ fn row_after(
     numbers: &[i64],
     places: usize,
     height: usize,
-    pivot: &Pivot<'_>,
+    pivot: &FoldedPivot<'_>,
     i: usize,
     out: &mut [i64],
 ) -> Result<(), Wide>
@@ -141,7 +141,7 @@ fn row_after(
         return Ok(());
     }
     out[c] = 0;
-    let turn = Multipliers {
+    let turn = RowMultipliers {
         own: part(numbers, places + 2, r)[c],
         base: number,
     };

@@ -5,8 +5,8 @@ use Rattle.search_steps.specs.declared.progress.Progress.{Progress}
 use Rattle.search_steps.specs.Progressing.{state_of, IsAt}
 use Rattle.search_spec.specs.Turns.{Closed}
 use Rattle.node_rounds.specs.declared.outcomes.Pending.{Pending}
-use Rattle.node_rounds.specs.declared.left.Mark.{Mark}
-use Rattle.node_rounds.specs.declared.left.Mark.TheVariants.{Line}
+use Rattle.node_rounds.specs.declared.left.TreeSlot.{TreeSlot}
+use Rattle.node_rounds.specs.declared.left.TreeSlot.TheVariants.{Line}
 use Rattle.node_rounds.specs.Outcomes.{pending_of, IsPendingOf}
 use Rattle.node_rounds.proofs.Lefts.{no_items, last_is, node_there}
 use Rattle.node_rounds.proofs.Closed.{ended_node, IsClosing, closing_first, closing_line, closing_node, closing_over}
@@ -23,7 +23,7 @@ end_node-requires-clause-node c =
 
 pub unreachable-requires : goal.unreachable-requires
 unreachable-requires c =
-    let marks = c.in-Some.ensures.items ∙ ap (λ (m : Mark). c.pop.new.self.items ++ m ∷ []) c.in-Node.is in
+    let marks = c.in-Some.ensures.items ∙ ap (λ (m : TreeSlot). c.pop.new.self.items ++ m ∷ []) c.in-Node.is in
     absurd (omega (
       arith,
       node_there c.pop.new.self.items c.loop-mark.marks.items c.loop-mark.nodes.items marks c.loop-mark.invariant.matched,
@@ -40,7 +40,7 @@ loop-mark-preserved c =
     let more = c.loop-mark.marks.items in
     elim c.match-mark.branch [
       | in-Line w ↦
-          let marks = c.in-Some.ensures.items ∙ ap (λ (m : Mark). ms ++ m ∷ []) w.in-Line.is in
+          let marks = c.in-Some.ensures.items ∙ ap (λ (m : TreeSlot). ms ++ m ∷ []) w.in-Line.is in
           let same = subst (λ (x : Progress). IsClosing t before left x more c.loop-mark.nodes.items) (sym w.progress-is) c.loop-mark.invariant in
           let is = subst (λ (v : Vec Pending Global). IsClosing t before left c.match-mark.progress more v.items) (sym w.nodes-is) same in
           let line = c.in_ok-add_line.ensures.added in
@@ -48,7 +48,7 @@ loop-mark-preserved c =
       | in-Node+in-Some-pop+in_ok-line-in-Some-pop w ↦
           let p = t.instance.now in
           let x = w.in-Some-pop.node in
-          let marks = c.in-Some.ensures.items ∙ ap (λ (m : Mark). ms ++ m ∷ []) w.in-Node.is in
+          let marks = c.in-Some.ensures.items ∙ ap (λ (m : TreeSlot). ms ++ m ∷ []) w.in-Node.is in
           let nodes = w.in-Some-pop.ensures.items ∙ ap (λ (v : Vec Pending Global). v.items ++ x ∷ []) (sym w.nodes-is) in
           let here = ended_node p (pending_of x) (state_of p c.loop-mark.progress) in
           let at = subst (λ (s : Progress). IsAt t c.loop-mark.progress s here.state) (sym w.progress-is) w.in_ok-line-in-Some-pop.ensures.at in

@@ -5,7 +5,7 @@ use Rattle.search_steps.specs.Weights.{pairs_of}
 use Rattle.search_steps.specs.Progressing.{state_of}
 use Rattle.search_spec.specs.Turns.{stops_at}
 use Rattle.node_rounds.specs.declared.fronts.Place.TheVariants.{Line}
-use Rattle.node_rounds.specs.declared.fronts.Front.{Front}
+use Rattle.node_rounds.specs.declared.fronts.RoundState.{RoundState}
 use Rattle.node_rounds.proofs.Added.{pushed_at, taken_as, any_room, one_line}
 use Rattle.node_rounds.proofs.fronts.stop_at.Goals as goal
 
@@ -17,7 +17,7 @@ returns c =
     let t = c.args.task.now in
     let p = t.instance.now in
     let front = c.args.front.now in
-    let after : Front = record { progress = c.stopped_leaf.new.progress; places = c.push.new.self } in
+    let after : RoundState = record { progress = c.stopped_leaf.new.progress; places = c.push.new.self } in
     let s = state_of p front.progress in
     let b = c.args.node.now.branch in
     let own = c.in_ok-line.line in

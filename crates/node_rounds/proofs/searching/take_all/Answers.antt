@@ -1,5 +1,5 @@
 use Rattle.std.proofs.Common.{◌≡◌, true, false, [], ◌∷◌, ◌++◌, is_some, refl, ap, sym, ◌∙◌, true≢false, rules, arith}
-use Rattle.node_rounds.specs.declared.left.Mark.{Mark}
+use Rattle.node_rounds.specs.declared.left.TreeSlot.{TreeSlot}
 use Rattle.node_rounds.specs.Outcomes.{IsPendingOf}
 use Rattle.node_rounds.proofs.Added.{outcome_kept}
 use Rattle.node_rounds.proofs.Lefts.{no_items, last_is}
@@ -15,7 +15,7 @@ loop-front-init g c = (
 
 pub loop-front-preserved-in-Continue-1 : goal.loop-front-preserved-in-Continue-1
 loop-front-preserved-in-Continue-1 g c =
-    let marks = c.in-Some-Line.ensures.items ∙ ap (λ (m : Mark). c.pop.new.self.items ++ m ∷ []) c.in-Some-Line.field-0-is in (
+    let marks = c.in-Some-Line.ensures.items ∙ ap (λ (m : TreeSlot). c.pop.new.self.items ++ m ∷ []) c.in-Some-Line.field-0-is in (
       turning_line c.args.task.now c.args.front.now.progress c.args.left.now c.loop-front.front c.add_line.new.front c.loop-front.left
           (record { marks = c.pop.new.self; nodes = c.loop-front.left.nodes }) c.loop-front.outcomes.items c.in-Some-Line.line c.loop-front.invariant.0 marks refl
           c.in_ok-add_line-in-Some-Line.ensures,
@@ -38,7 +38,7 @@ take-requires-clause-outcome g c =
 
 pub loop-front-preserved : goal.loop-front-preserved
 loop-front-preserved g c =
-    let marks = c.in-Some-Node.ensures.items ∙ ap (λ (m : Mark). c.pop.new.self.items ++ m ∷ []) c.in-Some-Node.field-0-is in
+    let marks = c.in-Some-Node.ensures.items ∙ ap (λ (m : TreeSlot). c.pop.new.self.items ++ m ∷ []) c.in-Some-Node.field-0-is in
     let going : is_some c.loop-front.front.progress.stop ≡ false = search rules in (
       turning_node c.args.task.now c.args.front.now.progress c.args.left.now c.loop-front.front c.take.new.front c.loop-front.left
           (record { marks = c.pop.new.self; nodes = c.pop-in-Some-Node.new.self }) c.loop-front.outcomes.items c.pop-in-Some-Node-2.new.self.items

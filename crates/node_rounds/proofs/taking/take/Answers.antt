@@ -9,7 +9,7 @@ use Rattle.search_steps.proofs.GivenPools.{weights_stay}
 use Rattle.search_steps.specs.Progressing.{state_of}
 use Rattle.search_spec.specs.Places as places
 use Rattle.search_spec.specs.Turns.{with_set, taken, split_up}
-use Rattle.node_rounds.specs.declared.fronts.Front.{Front}
+use Rattle.node_rounds.specs.declared.fronts.RoundState.{RoundState}
 use Rattle.node_rounds.specs.declared.outcomes.Outcome.{Outcome}
 use Rattle.node_rounds.specs.Outcomes.{pending_of, outcome_of, tree_of, IsOutcomeOf}
 use Rattle.node_rounds.proofs.Added.{nodes_kept, taken_as, taken_after, taken_ends, taken_asks, taken_splits, more_waits, same_waits}
@@ -55,7 +55,7 @@ returns-in-Ask-clause-taken g c =
     let t = c.args.task.now in
     let p = t.instance.now in
     let front = c.args.front.now in
-    let mid : Front = record { progress = c.with_set.new.progress; places = front.places } in
+    let mid : RoundState = record { progress = c.with_set.new.progress; places = front.places } in
     let last = c.add_node.new.front in
     let x = pending_of c.args.node in
     let s = state_of p front.progress in
