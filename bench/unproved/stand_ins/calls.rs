@@ -10,7 +10,7 @@
 use crate::branch_tree::{search, search_from};
 use crate::cert_checker::{Stream, Tested, read_tested};
 use crate::cert_scan::{Scan, Version};
-use crate::ascent_search::{Task, optimize_within};
+use crate::ascent_search::{SearchTask, optimize_within};
 use crate::core_cuts::core_cut;
 use crate::cut_pool::Found;
 use crate::dual_adviser::Adviser;
@@ -110,7 +110,7 @@ impl Words {
                 let workers = self.workers();
                 let adviser = Adviser::new(Global, instance, workers).unwrap();
                 let (nodes, gap) = (self.number("--nodes"), self.decimal("--gap", 3).unwrap_or(0));
-                let task = Task { instance, nodes: nodes.map(u64::from), gap: gap as u32, workers, first: &[] };
+                let task = SearchTask { instance, nodes: nodes.map(u64::from), gap: gap as u32, workers, first: &[] };
                 optimize_within(&Host, Global, &task, adviser)
             }
             "resolve" => {

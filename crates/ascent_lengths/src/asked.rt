@@ -1,7 +1,7 @@
 //! Values of places at a price: those of two places whose route is shorter than the price must together make up the
 //! difference.
 
-use crate::commodity::Commodity;
+use crate::commodity::CommodityLengths;
 use crate::rows::{FAR, at, copy, fill, put, set_sums};
 use std::alloc::{AllocError, Global};
 
@@ -41,7 +41,7 @@ impl PlaceValues {
     }
 
     /// Begins at this price with these values; each place requires of others what its value leaves.
-    pub fn begin_from(&mut self, legs: &Commodity<'_>, price: u32, values: &[u32]) {
+    pub fn begin_from(&mut self, legs: &CommodityLengths<'_>, price: u32, values: &[u32]) {
         self.price = price;
         copy(values, &mut self.values);
         set_sums(legs.ends.collect, values, &mut self.firsts);
@@ -49,7 +49,7 @@ impl PlaceValues {
     }
 
     /// Sets the value of a place.
-    pub fn settle(&mut self, legs: &Commodity<'_>, k: usize, value: u32) {
+    pub fn settle(&mut self, legs: &CommodityLengths<'_>, k: usize, value: u32) {
         let (collect, deliver) = (at(legs.ends.collect, k), at(legs.ends.deliver, k));
         put(&mut self.values, k, value);
         put(&mut self.firsts, k, collect.wrapping_add(value));
@@ -64,7 +64,7 @@ impl PlaceValues {
 
     /// Sets the value of each of these places, in order, to the least that its routes require, alone or with places
     /// that require something. A place requires nothing of others until it has a value.
-    pub fn settle_asked(&mut self, legs: &Commodity<'_>, places: &[usize]) {
+    pub fn settle_asked(&mut self, legs: &CommodityLengths<'_>, places: &[usize]) {
         let legs = legs.below(self.price);
         for k in places {
             let (forth, back) = (legs.forth(*k), legs.back(*k));
@@ -84,14 +84,19 @@ impl PlaceValues {
     }
 
     /// The least length of a route over the place, plus the value of its other hub.
-    pub fn shortest_by(&self, legs: &Commodity<'_>, k: usize) -> u32 {
+    pub fn shortest_by(&self, legs: &CommodityLengths<'_>, k: usize) -> u32 {
         let onward = legs.onward(k).least(&self.lasts);
         let before = legs.before(k).least(&self.firsts);
         onward.min(before).min(legs.alone(k))
     }
 
     /// The greatest price, at most `most`, at which these values are feasible.
-    pub fn greatest_price(&mut self, legs: &Commodity<'_>, values: &[u32], most: u32) -> u32 {
+    pub fn greatest_price(
+        &mut self,
+        legs: &CommodityLengths<'_>,
+        values: &[u32],
+        most: u32,
+    ) -> u32 {
         self.begin_from(legs, most, values);
         let mut price = most;
         for (k, value) in values.iter().enumerate() {

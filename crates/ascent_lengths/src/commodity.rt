@@ -1,13 +1,13 @@
 //! The routes of a commodity. A route that `--max-length` forbids has length `FAR`.
 
 use crate::rows::{FAR, at, least_sum, row, small};
-use crate::tables::{Legs, Tables};
+use crate::tables::{LegTables, LengthTables};
 
 /// The legs of a commodity over places, allowed or not: collection, delivery, and the least lengths of each with a
 /// trunk leg. With `--max-length` it has the distances that say which routes are allowed, and a length below which all
 /// of them are.
 #[derive(Clone, Copy)]
-pub struct Commodity<'a> {
+pub struct CommodityLengths<'a> {
     /// Collection and delivery.
     pub ends: Ends<'a>,
     collect_near: &'a [u32],
@@ -17,10 +17,10 @@ pub struct Commodity<'a> {
     safe_below: u32,
 }
 
-impl<'a> Commodity<'a> {
+impl<'a> CommodityLengths<'a> {
     /// The legs of the commodity from `i` to `j`.
-    pub fn of(tables: &'a Tables, i: usize, j: usize) -> Commodity<'a> {
-        let mut legs = Commodity {
+    pub fn of(tables: &'a LengthTables, i: usize, j: usize) -> CommodityLengths<'a> {
+        let mut legs = CommodityLengths {
             ends: tables.legs.ends(i, j),
             collect_near: tables.collect_near.row(i),
             deliver_near: tables.deliver_near.row(j),
@@ -57,7 +57,7 @@ impl<'a> Commodity<'a> {
     }
 
     /// The same commodity where only routes shorter than this matter: without distances, if all of these are allowed.
-    pub fn below(&self, limit: u32) -> Commodity<'a> {
+    pub fn below(&self, limit: u32) -> CommodityLengths<'a> {
         let mut legs = *self;
         if self.is_safe(limit) {
             legs.distances = None;
@@ -128,14 +128,14 @@ impl<'a> Commodity<'a> {
 /// between places.
 #[derive(Clone, Copy)]
 pub struct Ends<'a> {
-    legs: &'a Legs,
+    legs: &'a LegTables,
     /// The collection leg to each place.
     pub collect: &'a [u32],
     /// The delivery leg from each place.
     pub deliver: &'a [u32],
 }
 
-impl Legs {
+impl LegTables {
     fn ends(&self, i: usize, j: usize) -> Ends<'_> {
         Ends {
             legs: self,

@@ -2,9 +2,9 @@
 
 ghost use Rattle.std.specs.Prelude.{◌≤◌};
 
-use crate::commodity::Commodity;
+use crate::commodity::CommodityLengths;
 use crate::rows::{FAR, at, put, row, row_mut};
-use crate::tables::{Distances, Legs, Tables};
+use crate::tables::{Distances, LegTables, LengthTables};
 use crate::units::{Units, distance_unit};
 use hub_model::Instance;
 use std::alloc::{AllocError, Global};
@@ -20,7 +20,7 @@ pub struct Lengths {
     /// The number of candidates.
     pub places: usize,
     /// The tables over all places.
-    pub tables: Tables,
+    pub tables: LengthTables,
     /// The number p of hubs, if exactly p are required.
     pub wanted: Option<usize>,
     /// Whether a commodity and its reverse are merged.
@@ -55,7 +55,7 @@ impl Lengths {
         let mut lengths = Lengths {
             size,
             places,
-            tables: Tables::of(alloc, [size, places], legs, distances)?,
+            tables: LengthTables::of(alloc, [size, places], legs, distances)?,
             wanted: instance.wanted().map(|wanted| wanted as usize),
             are_merged: are_even && merge(&mut flows, size),
             flowing: flows.iter().filter(|flow| **flow > 0).count(),
@@ -110,7 +110,7 @@ impl Lengths {
         let mut safe = Vec::with_capacity(alloc, self.commodities())?;
         for i in 0..self.size {
             for j in 0..self.size {
-                safe.push(Commodity::of(&self.tables, i, j).shortest_barred())?;
+                safe.push(CommodityLengths::of(&self.tables, i, j).shortest_barred())?;
             }
         }
         if let Some(distances) = &mut self.tables.distances {
@@ -186,11 +186,11 @@ fn legs_of(
     instance: &Instance,
     unit: u64,
     factors: [u64; 3],
-) -> Result<Legs, AllocError> {
+) -> Result<LegTables, AllocError> {
     let [collect, trunk, deliver] = factors;
     let size = instance.size() as usize;
     let candidates = instance.candidates();
-    let mut legs = Legs::new(alloc, size, candidates.len())?;
+    let mut legs = LegTables::new(alloc, size, candidates.len())?;
     for (x, k) in candidates.iter().enumerate() {
         let k = *k as usize;
         for i in 0..size {

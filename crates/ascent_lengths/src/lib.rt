@@ -20,11 +20,11 @@ mod units;
 mod workers;
 
 pub use asked::PlaceValues;
-pub use commodity::{Commodity, Ends, HubRoutes};
+pub use commodity::{CommodityLengths, Ends, HubRoutes};
 pub use lengths::Lengths;
 pub use rows::{
     FAR, NONE, add, at, copy, fill, gather, least_sum, lower, lower_reduced, marked, put, raise,
     row, row_mut, set_sums, short, small,
 };
-pub use tables::{Legs, Table, Tables};
-pub use workers::Workers;
+pub use tables::{LegTables, LengthTables, Table};
+pub use workers::PassWorkers;

@@ -57,7 +57,7 @@ impl Table {
 
 /// The legs of routes over some places. Past the last place of a row stands `FAR`.
 #[derive(Drop)]
-pub struct Legs {
+pub struct LegTables {
     /// The legs from each origin to the places.
     pub collect: Table,
     /// The legs to each destination from the places.
@@ -68,10 +68,10 @@ pub struct Legs {
     pub trunk_back: Table,
 }
 
-impl Legs {
+impl LegTables {
     /// Legs between `size` nodes and `places` places, all `FAR`.
-    pub(crate) fn new(alloc: Global, size: usize, places: usize) -> Result<Legs, AllocError> {
-        Ok(Legs {
+    pub(crate) fn new(alloc: Global, size: usize, places: usize) -> Result<LegTables, AllocError> {
+        Ok(LegTables {
             collect: Table::new(alloc, size, places)?,
             deliver: Table::new(alloc, size, places)?,
             trunk: Table::new(alloc, places, places)?,
@@ -89,8 +89,8 @@ impl Legs {
     }
 
     /// The same legs over these places alone.
-    fn over(&self, alloc: Global, size: usize, places: &[usize]) -> Result<Legs, AllocError> {
-        let mut legs = Legs::new(alloc, 0, places.len())?;
+    fn over(&self, alloc: Global, size: usize, places: &[usize]) -> Result<LegTables, AllocError> {
+        let mut legs = LegTables::new(alloc, 0, places.len())?;
         legs.collect = self.collect.gathered(alloc, size, places)?;
         legs.deliver = self.deliver.gathered(alloc, size, places)?;
         for (x, k) in places.iter().enumerate() {
@@ -111,7 +111,7 @@ impl Legs {
 /// a length below which all of its routes are allowed.
 #[derive(Drop)]
 pub(crate) struct Distances {
-    pub(crate) legs: Legs,
+    pub(crate) legs: LegTables,
     pub(crate) limit: u32,
     pub(crate) safe_below: Vec<u32>,
 }
@@ -119,13 +119,13 @@ pub(crate) struct Distances {
 /// The legs of an instance over some places, with the least lengths of two legs, and distances where `--max-length`
 /// limits routes.
 #[derive(Drop)]
-pub struct Tables {
+pub struct LengthTables {
     /// The number of nodes.
     pub size: usize,
     /// The number of places.
     pub places: usize,
     /// The legs.
-    pub legs: Legs,
+    pub legs: LegTables,
     /// From each origin to each place, the least length of collection and trunk leg.
     pub(crate) collect_near: Table,
     /// To each destination from each place, the least length of trunk leg and delivery.
@@ -133,16 +133,16 @@ pub struct Tables {
     pub(crate) distances: Option<Distances>,
 }
 
-impl Tables {
+impl LengthTables {
     /// The tables of these legs and distances.
     pub(crate) fn of(
         alloc: Global,
         counts: [usize; 2],
-        legs: Legs,
+        legs: LegTables,
         distances: Option<Distances>,
-    ) -> Result<Tables, AllocError> {
+    ) -> Result<LengthTables, AllocError> {
         let [size, places] = counts;
-        Ok(Tables {
+        Ok(LengthTables {
             size,
             places,
             collect_near: legs
@@ -155,7 +155,7 @@ impl Tables {
     }
 
     /// The tables over these places alone, with new indices.
-    pub fn over(&self, alloc: Global, places: &[usize]) -> Result<Tables, AllocError> {
+    pub fn over(&self, alloc: Global, places: &[usize]) -> Result<LengthTables, AllocError> {
         let distances = match &self.distances {
             None => None,
             Some(distances) => Some(Distances {
@@ -165,7 +165,7 @@ impl Tables {
             }),
         };
         let legs = self.legs.over(alloc, self.size, places)?;
-        Tables::of(alloc, [self.size, places.len()], legs, distances)
+        LengthTables::of(alloc, [self.size, places.len()], legs, distances)
     }
 
     /// Returns whether `--max-length` limits routes.

@@ -27,9 +27,9 @@ pub(crate) struct Units {
 impl Units {
     /// The units that fit the instance.
     pub(crate) fn of(instance: &Instance, factors: [u64; 3]) -> Units {
-        let flows = Numbers::of(instance.flows());
-        let distances = Numbers::of(instance.distances());
-        let factors = Numbers::of(&factors);
+        let flows = NumberSummary::of(instance.flows());
+        let distances = NumberSummary::of(instance.distances());
+        let factors = NumberSummary::of(&factors);
         let common = flows.common.max(1);
         let longest = factors.total.wrapping_mul(distances.most);
         // The greatest length of the longest route at which flows need no rounding.
@@ -55,27 +55,27 @@ impl Units {
 
 /// The unit of distances: their greatest common divisor, or a coarser unit in which none is above `MOST_LENGTH`.
 pub(crate) fn distance_unit(instance: &Instance) -> u64 {
-    let distances = Numbers::of(instance.distances());
+    let distances = NumberSummary::of(instance.distances());
     narrow(distances.common.max(distances.most.div_ceil(MOST_LENGTH)))
 }
 
 /// The greatest common divisor of some numbers, at least 1, the greatest of them, and their sum.
 #[derive(Drop)]
-struct Numbers {
+struct NumberSummary {
     common: u128,
     most: u128,
     total: u128,
 }
 
-impl Numbers {
-    fn of(numbers: &[u64]) -> Numbers {
+impl NumberSummary {
+    fn of(numbers: &[u64]) -> NumberSummary {
         let (mut common, mut most, mut total) = (0, 0, 0u128);
         for number in numbers {
             common = divisor(common, *number);
             most = most.max(*number);
             total = total.wrapping_add(*number as u128);
         }
-        Numbers {
+        NumberSummary {
             common: common.max(1) as u128,
             most: most as u128,
             total,

@@ -6,7 +6,7 @@ use std::alloc::Global;
 
 /// The workers of a job: how many there are, and what they take memory from.
 #[derive(Drop)]
-pub struct Workers<'a, R> {
+pub struct PassWorkers<'a, R> {
     /// The runtime's handle.
     pub rt: &'a R,
     /// The memory.
@@ -15,7 +15,7 @@ pub struct Workers<'a, R> {
     pub count: u32,
 }
 
-impl<R> Workers<'_, R> {
+impl<R> PassWorkers<'_, R> {
     /// The number of workers that share a job in blocks: from 1 to 64.
     pub fn many(&self) -> u32
         ensures { (1 ≤ result) × (result ≤ 64) }

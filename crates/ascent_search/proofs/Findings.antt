@@ -32,7 +32,7 @@ use Rattle.cut_pool.specs.declared.found.Found.{Found}
 use Rattle.cut_pool.specs.Findings.{lines_of, proof_of, IsUnlimited, AreRemade, IsVersionFor, IsProved}
 use Rattle.cut_pool.proofs.KeptCutLaws.{kept_is_cut, kept_in_range}
 use Rattle.cut_pool.proofs.Versions.{has_text}
-use Rattle.ascent_search.specs.declared.task.Task.{Task}
+use Rattle.ascent_search.specs.declared.task.SearchTask.{SearchTask}
 use Rattle.ascent_search.specs.declared.progress.TreeProgress.{TreeProgress}
 use Rattle.ascent_search.specs.Gaps.{most_gap, IsWithinGap}
 use Rattle.ascent_search.specs.Progressing.{cuts_of, target_of, Says, AreFirstHubs, IsFirst, IsWantedAs, IsGoing, IsOver, IsBestBound}
@@ -40,7 +40,7 @@ use Rattle.ascent_search.proofs.Gaps.{all_within}
 use Rattle.ascent_search.proofs.BestBounds.{tree_walks, walk_by}
 
 -- the finding is what the search has at its end, with the least routes of the incumbent
-pub record IsFoundOf (t : Task) (s : TreeProgress) (found : Found) : Type 0 where
+pub record IsFoundOf (t : SearchTask) (s : TreeProgress) (found : Found) : Type 0 where
   pub cost : found.cost ≡ s.cost
   pub bound : found.bound ≡ target_of s
   pub hubs : found.plan.hubs ≡ s.hubs
@@ -54,7 +54,7 @@ record HasTree (p : Problem) (found : Found) : Type 0 where
   lines : preorder tree ≡ lines_of found.tree.items
   sound : IsSound p (kept_cuts p found.cuts.cuts) found.bound (root p) tree
 
-found_tree : (t : Task) (s : TreeProgress) (found : Found) → IsOver t s → IsFoundOf t s found → HasTree t.instance.now found
+found_tree : (t : SearchTask) (s : TreeProgress) (found : Found) → IsOver t s → IsFoundOf t s found → HasTree t.instance.now found
 found_tree t s found over is =
     let p = t.instance.now in
     let walk : Walks p (kept_cuts p found.cuts.cuts) found.bound (root p ∷ []) (lines_of found.tree.items) [] =
@@ -66,7 +66,7 @@ both_say : (target cost : ℕ) (left : Option ℕ) → target ≤ cost → Says 
 both_say target cost None less says = less
 both_say target cost (Some low) less says = omega (arith, less, says)
 
-module _ (t : Task) (s : TreeProgress) (found : Found) (over : IsOver t s) (is : IsFoundOf t s found) where
+module _ (t : SearchTask) (s : TreeProgress) (found : Found) (over : IsOver t s) (is : IsFoundOf t s found) where
   found_set : IsHubSet t.instance.now found.plan.hubs
   found_set = subst (IsHubSet t.instance.now) (sym is.hubs) over.going.hubs
 
@@ -218,7 +218,7 @@ within_one : (n : Option ℕ) → AreWithin n 1
 within_one None = tt
 within_one (Some m) = λ some. some
 
-pub begun_going : (t : Task) (s : TreeProgress) → IsProblem t.instance.now → t.gap ≤ most_gap
+pub begun_going : (t : SearchTask) (s : TreeProgress) → IsProblem t.instance.now → t.gap ≤ most_gap
     → s.cuts ≡ record { cuts = []; totals = []; loads = [] } → s.lines.items ≡ [] → IsFirst t s.hubs s.cost
     → s.made ≡ 1 → s.stopped ≡ false → s.left ≡ None → IsGoing t s
 begun_going t s ok gap cuts lines first made stopped left =
@@ -255,7 +255,7 @@ pub as_wanted : (p : Problem) (nodes : List ℕ) (told : Option (List ℕ)) (set
 as_wanted p nodes told set is said = subst (λ (o : Option (List ℕ)). IfSome o (IsWantedAs p nodes)) is said
 
 -- they are the first incumbent where the task's nodes are no hub set that is wanted
-pub first_alone : (t : Task) (hubs : List ℕ) (cost : ℕ) → AreFirstHubs t.instance.now hubs → IsSetCost t.instance.now hubs cost
+pub first_alone : (t : SearchTask) (hubs : List ℕ) (cost : ℕ) → AreFirstHubs t.instance.now hubs → IsSetCost t.instance.now hubs cost
     → (IsWantedSet t.instance.now t.first.now → ⊥) → IsFirst t hubs cost
 first_alone t hubs cost first is_cost none = record {
   set = first.set;
@@ -265,7 +265,7 @@ first_alone t hubs cost first is_cost none = record {
 }
 
 -- else these two are, whichever costs less
-pub first_kept : (t : Task) (hubs : List ℕ) (cost given : ℕ) → AreFirstHubs t.instance.now hubs → IsSetCost t.instance.now hubs cost
+pub first_kept : (t : SearchTask) (hubs : List ℕ) (cost given : ℕ) → AreFirstHubs t.instance.now hubs → IsSetCost t.instance.now hubs cost
     → IsSetCost t.instance.now t.first.now given → cost ≤ given → IsFirst t hubs cost
 first_kept t hubs cost given first is_cost is_given low = record {
   set = first.set;
@@ -274,7 +274,7 @@ first_kept t hubs cost given first is_cost is_given low = record {
   given = λ set other is_other. omega (arith, low, one_set_cost t.instance.now t.first.now given other is_given is_other);
 }
 
-pub given_first : (t : Task) (hubs given : List ℕ) (cost less : ℕ) → AreFirstHubs t.instance.now hubs → IsSetCost t.instance.now hubs cost
+pub given_first : (t : SearchTask) (hubs given : List ℕ) (cost less : ℕ) → AreFirstHubs t.instance.now hubs → IsSetCost t.instance.now hubs cost
     → given ≡ t.first.now → IsWantedSet t.instance.now given → IsSetCost t.instance.now given less → less ≤ cost → IsFirst t given less
 given_first t hubs given cost less first is_cost same set is_less low =
     let p = t.instance.now in
@@ -288,7 +288,7 @@ given_first t hubs given cost less first is_cost same set is_less low =
 
 -- ---- the end
 
-pub found_of : (t : Task) (s : TreeProgress) (found : Found) (routes : List (ℕ × ℕ)) → found.cost ≡ s.cost → found.bound ≡ target_of s
+pub found_of : (t : SearchTask) (s : TreeProgress) (found : Found) (routes : List (ℕ × ℕ)) → found.cost ≡ s.cost → found.bound ≡ target_of s
     → found.plan ≡ record { hubs = s.hubs; routes = routes } → AllZip (IsLeastRoute t.instance.now s.hubs) (commodities t.instance.now.size) routes
     → found.cuts ≡ s.cuts → found.tree.items ≡ s.lines.items → IsFoundOf t s found
 found_of t s found routes cost bound plan least cuts lines =

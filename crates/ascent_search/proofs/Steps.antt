@@ -22,7 +22,7 @@ use Rattle.search_spec.proofs.Walking.{goes_on, stays}
 use Rattle.cut_pool.specs.Kept.{Kept, KeptList, kept_cut, kept_cuts, IsRemade, IsKeptFor, AreKeptFor}
 use Rattle.cut_pool.specs.Findings.{lines_of, IsUnlimited}
 use Rattle.ascent_search.specs.Ends.{IsEndLine}
-use Rattle.ascent_search.specs.declared.task.Task.{Task}
+use Rattle.ascent_search.specs.declared.task.SearchTask.{SearchTask}
 use Rattle.ascent_search.specs.declared.progress.TreeProgress.{TreeProgress}
 use Rattle.ascent_search.specs.Gaps.{IsWithinGap}
 use Rattle.ascent_search.specs.SingleCuts.{AreLoads}
@@ -64,7 +64,7 @@ line_best p before after line count first has =
     keeps_line p first before after (tree_line_of line) (ap (λ (cs : KeptList). kept_cuts p cs.cuts) has.cuts)
     (line_written before after line count has) has.left
 
-pub line_last : (t : Task) (b : Branching) (before after : TreeProgress) (line : model.TreeLine) (count : ℕ) → HasLine before after line count
+pub line_last : (t : SearchTask) (b : Branching) (before after : TreeProgress) (line : model.TreeLine) (count : ℕ) → HasLine before after line count
     → IsLastLine t b (tree_line_of line) before after
 line_last t b before after line count has = λ first pending target to proves.
     (let p = t.instance.now in
@@ -77,7 +77,7 @@ spent_on : (n : Option ℕ) (made more : ℕ) → made ≤ more → IsSpent n ma
 spent_on None made more less spent = spent
 spent_on (Some most) made more less spent = omega (arith, less, spent)
 
-line_going : (t : Task) (before after : TreeProgress) (line : model.TreeLine) (count : ℕ) → IsGoing t before → HasLine before after line count
+line_going : (t : SearchTask) (before after : TreeProgress) (line : model.TreeLine) (count : ℕ) → IsGoing t before → HasLine before after line count
     → length after.lines.items ≤ most_tree_lines → IsLineInRange t.instance.now.size (tree_line_of line)
     → (IsUnlimited t.instance.now → IsFirstLine (tree_line_of line)) → before.made ≤ count
     → count ≤ before.made + 2 → AreWithin t.nodes count → IsGoing t after
@@ -105,7 +105,7 @@ line_going t before after line count going has few in_range first more less with
   near = rw (has.stopped, has.cost, has.left) going.near;
 }
 
-pub line_done : (t : Task) (b : Branching) (before after : TreeProgress) (line : model.TreeLine) → IsGoing t before → IsEndLine (tree_line_of line)
+pub line_done : (t : SearchTask) (b : Branching) (before after : TreeProgress) (line : model.TreeLine) → IsGoing t before → IsEndLine (tree_line_of line)
     → IsSoundLine t.instance.now (cuts_of t.instance.now before) (target_of before) b (tree_line_of line)
     → IsLineInRange t.instance.now.size (tree_line_of line) → (IsUnlimited t.instance.now → IsFirstLine (tree_line_of line))
     → length after.lines.items ≤ most_tree_lines
@@ -123,7 +123,7 @@ line_done t b before after line going end sound in_range first few has =
       enough = λ room none. has.stopped ∙ none;
     }
 
-pub line_halved : (t : Task) (b : Branching) (k : ℕ) (before after : TreeProgress) (line : model.TreeLine) → IsGoing t before
+pub line_halved : (t : SearchTask) (b : Branching) (k : ℕ) (before after : TreeProgress) (line : model.TreeLine) → IsGoing t before
     → tree_line_of line ≡ branch_on k → IsSoundLine t.instance.now (cuts_of t.instance.now before) (target_of before) b (branch_on k)
     → k < t.instance.now.size → AreWithin t.nodes (before.made + 2) → length after.lines.items ≤ most_tree_lines
     → HasLine before after line (before.made + 2) → IsHalved t b k before after
@@ -145,7 +145,7 @@ line_halved t b k before after line going is sound node within few has =
 
 -- ---- no line more
 
-pub at_same : (t : Task) (s : TreeProgress) → IsGoing t s → IsAt t s s
+pub at_same : (t : SearchTask) (s : TreeProgress) → IsGoing t s → IsAt t s s
 at_same t s going = record {
   going = going;
   walks = λ first last walks. walks;
@@ -155,7 +155,7 @@ at_same t s going = record {
   stopped = refl;
 }
 
-pub at_twice : (t : Task) (before middle after : TreeProgress) → IsAt t before middle → IsAt t middle after → IsAt t before after
+pub at_twice : (t : SearchTask) (before middle after : TreeProgress) → IsAt t before middle → IsAt t middle after → IsAt t before after
 at_twice t before middle after one two = record {
   going = two.going;
   walks = λ first last walks. two.walks first last (one.walks first last walks);
@@ -166,7 +166,7 @@ at_twice t before middle after one two = record {
   stopped = two.stopped ∙ one.stopped;
 }
 
-pub at_done : (t : Task) (b : Branching) (before middle after : TreeProgress) → IsAt t before middle → IsDone t b middle after → IsDone t b before after
+pub at_done : (t : SearchTask) (b : Branching) (before middle after : TreeProgress) → IsAt t before middle → IsDone t b middle after → IsDone t b before after
 at_done t b before middle after at done = record {
   going = done.going;
   walks = λ first pending walks. done.walks first pending (at.walks first (b ∷ pending) walks);
@@ -180,7 +180,7 @@ at_done t b before middle after at done = record {
 }
 
 -- the result of a heuristic's proposal, seen from an earlier state with the same lines and nodes
-pub at_advised : (t : Task) (b : Branching) (before middle after : TreeProgress) (ended : Bool) → IsAt t before middle → IsAdvised t b middle after ended
+pub at_advised : (t : SearchTask) (b : Branching) (before middle after : TreeProgress) (ended : Bool) → IsAt t before middle → IsAdvised t b middle after ended
     → IsAdvised t b before after ended
 at_advised t b before middle after true at done = at_done t b before middle after at done
 at_advised t b before middle after false at more = (at_twice t before middle after at more.0, more.1)
@@ -200,7 +200,7 @@ pub record HasOffer (before after : TreeProgress) : Type 0 where
   pub left : after.left ≡ before.left
   pub cost : after.cost ≤ before.cost
 
-pub offer_at : (t : Task) (before after : TreeProgress) → IsGoing t before → HasOffer before after → IsHubSet t.instance.now after.hubs
+pub offer_at : (t : SearchTask) (before after : TreeProgress) → IsGoing t before → HasOffer before after → IsHubSet t.instance.now after.hubs
     → HasWanted t.instance.now after.hubs → IsSetCost t.instance.now after.hubs after.cost → IsAt t before after
 offer_at t before after going has set wanted is_cost =
     let p = t.instance.now in
@@ -249,7 +249,7 @@ pub record HasCut (before after : TreeProgress) (cut : Kept) (sum : ℕ) (loads 
   pub stopped : after.stopped ≡ before.stopped
   pub left : after.left ≡ before.left
 
-pub cut_at_step : (t : Task) (before after : TreeProgress) (cut : Kept) (sum : ℕ) (loads : List ℕ) → IsGoing t before → HasCut before after cut sum loads
+pub cut_at_step : (t : SearchTask) (before after : TreeProgress) (cut : Kept) (sum : ℕ) (loads : List ℕ) → IsGoing t before → HasCut before after cut sum loads
     → IsRemade cut → IsKeptFor t.instance.now cut → AreLoads t.instance.now (kept_cut t.instance.now cut) sum loads → length before.cuts.cuts < most_cuts
     → IsAt t before after
 cut_at_step t before after cut sum loads going has own fits sums few =
@@ -293,7 +293,7 @@ abbrev pub leaving : TreeProgress → Bool → ℕ → TreeProgress
 leaving s stopped low = record s { stopped = stopped; left = Some low }
 
 -- where two nodes more are not allowed, or the search did not stop and what its leaves close stays within the gap
-pub left_going : (t : Task) (before : TreeProgress) (stopped : Bool) (low : ℕ) → IsGoing t before → (IsTrue stopped → IsSpent t.nodes before.made)
+pub left_going : (t : SearchTask) (before : TreeProgress) (stopped : Bool) (low : ℕ) → IsGoing t before → (IsTrue stopped → IsSpent t.nodes before.made)
     → (stopped ≡ false → IsWithinGap t.gap (lesser before.cost (Some low)) before.cost) → IsGoing t (leaving before stopped low)
 left_going t before stopped low going spent near = record {
   problem = going.problem;
@@ -325,11 +325,11 @@ left_below cost r None = omega arith
 left_below cost r (Some m) = omega arith
 
 -- the leaf proves no more than this at the branch
-abbrev pub LeafSays : Task → Branching → TreeProgress → TreeLine → ℕ → Type 0
+abbrev pub LeafSays : SearchTask → Branching → TreeProgress → TreeLine → ℕ → Type 0
 LeafSays t b s line r = (target : ℕ) → IsSoundLine t.instance.now (cuts_of t.instance.now s) target b line → target ≤ r
 
 -- the branch was filled with a leaf that says this, whether or not there was a stop
-pub left_done : (t : Task) (b : Branching) (before after : TreeProgress) (stopped : Bool) (r : ℕ) (line : TreeLine)
+pub left_done : (t : SearchTask) (b : Branching) (before after : TreeProgress) (stopped : Bool) (r : ℕ) (line : TreeLine)
     → (MayBeWhole t b before → before.stopped ≡ false → after.stopped ≡ false) → LeafSays t b before line r
     → IsDone t b (leaving before stopped (lesser r before.left)) after
     → IsLastLine t b line (leaving before stopped (lesser r before.left)) after → IsDone t b before after
@@ -360,7 +360,7 @@ too_few : {G : Type 0} (n : Option ℕ) (made free : ℕ) → IsEnough (made + 2
 too_few None made free room spent some = absurd spent
 too_few (Some n) made free room spent some = absurd (omega (arith, room, spent, two_free free some))
 
-pub stop_done : (t : Task) (b : Branching) (before after : TreeProgress) (r : ℕ) (line : TreeLine) → IsSpent t.nodes before.made
+pub stop_done : (t : SearchTask) (b : Branching) (before after : TreeProgress) (r : ℕ) (line : TreeLine) → IsSpent t.nodes before.made
     → (before.stopped ≡ false → 1 ≤ length b.free) → LeafSays t b before line r
     → IsDone t b (leaving before true (lesser r before.left)) after
     → IsLastLine t b line (leaving before true (lesser r before.left)) after → IsDone t b before after
@@ -373,7 +373,7 @@ enough_less : (n : Option ℕ) (fewer more : ℕ) → fewer ≤ more → IsEnoug
 enough_less None fewer more less enough = tt
 enough_less (Some n) fewer more less enough = omega (arith, less, enough)
 
-pub halved_done : (t : Task) (b : Branching) (k : ℕ) (before begun middle after : TreeProgress) → IsHalved t b k before begun
+pub halved_done : (t : SearchTask) (b : Branching) (k : ℕ) (before begun middle after : TreeProgress) → IsHalved t b k before begun
     → IsDone t (open_child b k) begun middle → IsDone t (closed_child b k) middle after → IsDone t b before after
 halved_done t b k before begun middle after halved opened closed =
     let f = length b.free in
@@ -405,7 +405,7 @@ halved_done t b k before begun middle after halved opened closed =
 
 -- ---- the end
 
-pub is_over : (t : Task) (begun after : TreeProgress) → begun.lines.items ≡ [] → begun.made ≡ 1 → begun.stopped ≡ false → begun.left ≡ None
+pub is_over : (t : SearchTask) (begun after : TreeProgress) → begun.lines.items ≡ [] → begun.made ≡ 1 → begun.stopped ≡ false → begun.left ≡ None
     → IsDone t (root t.instance.now) begun after → IsOver t after
 is_over t begun after none one going silent done =
     let p = t.instance.now in

@@ -14,7 +14,7 @@ use Rattle.search_spec.specs.Walks.{IsSoundLine, Walks}
 use Rattle.cut_pool.specs.Kept.{kept_cuts, IsRemade, AreKeptFor}
 use Rattle.cut_pool.specs.Findings.{lines_of, IsUnlimited}
 use Rattle.cut_pool.specs.declared.found.Found.{Found}
-use Rattle.ascent_search.specs.declared.task.Task.{Task}
+use Rattle.ascent_search.specs.declared.task.SearchTask.{SearchTask}
 use Rattle.ascent_search.specs.Gaps.{most_gap, IsWithinGap}
 use Rattle.ascent_search.specs.declared.progress.TreeProgress.{TreeProgress}
 
@@ -55,7 +55,7 @@ pub record IsWantedAs (p : Problem) (nodes set : List ℕ) : Type 0 where
 
 -- the first incumbent of a task: a hub set that is wanted, with its cost, which is at most that of these hubs, and of
 -- the task's first nodes, where they are such a set
-pub record IsFirst (t : Task) (hubs : List ℕ) (cost : ℕ) : Type 0 where
+pub record IsFirst (t : SearchTask) (hubs : List ℕ) (cost : ℕ) : Type 0 where
   pub set : IsWantedSet t.instance.now hubs
   pub is_cost : IsSetCost t.instance.now hubs cost
   pub at_most : IsAtMostOf t.instance.now (first_hubs t.instance.now) cost
@@ -66,7 +66,7 @@ pub record IsFirst (t : Task) (hubs : List ℕ) (cost : ℕ) : Type 0 where
 -- hubs. It costs at most what the hubs cost with which each search begins. It costs at most what the task's first
 -- nodes cost, where they are a wanted hub set. No more nodes are made than are allowed. Unless the search stopped,
 -- the cutoff at which its leaves fathom is within the gap.
-pub record IsGoing (t : Task) (s : TreeProgress) : Type 0 where
+pub record IsGoing (t : SearchTask) (s : TreeProgress) : Type 0 where
   pub problem : IsProblem t.instance.now
   pub kept : AreKeptFor t.instance.now s.cuts
   pub own : All IsRemade s.cuts.cuts
@@ -87,7 +87,7 @@ pub record IsGoing (t : Task) (s : TreeProgress) : Type 0 where
   pub near : s.stopped ≡ false → IsWithinGap t.gap (target_of s) s.cost
 
 -- the search goes on with the same lines and nodes: what its lines led to they still lead to
-pub record IsAt (t : Task) (before after : TreeProgress) : Type 0 where
+pub record IsAt (t : SearchTask) (before after : TreeProgress) : Type 0 where
   pub going : IsGoing t after
   pub walks : (first last : List Branching) → WalksTo t.instance.now before first last → WalksTo t.instance.now after first last
   pub best : (first last : List Branching) → WalksTo t.instance.now before first last → KeepsBest t.instance.now first before after
@@ -96,12 +96,12 @@ pub record IsAt (t : Task) (before after : TreeProgress) : Type 0 where
   pub stopped : after.stopped ≡ before.stopped
 
 -- a whole tree of the branch is allowed: 2 ^ (free nodes + 1) - 1 nodes, of which the branch itself is made
-abbrev pub MayBeWhole : Task → Branching → TreeProgress → Type 0
+abbrev pub MayBeWhole : SearchTask → Branching → TreeProgress → Type 0
 MayBeWhole t b s = IsEnough (s.made + 2 ^ (length b.free + 1) - 1) t.nodes
 
 -- the branch has been filled, with a line for each node that was made, and one for the branch itself: no more than a
 -- whole tree has, and without a stop where a whole tree is allowed
-pub record IsDone (t : Task) (b : Branching) (before after : TreeProgress) : Type 0 where
+pub record IsDone (t : SearchTask) (b : Branching) (before after : TreeProgress) : Type 0 where
   pub going : IsGoing t after
   pub walks : (first pending : List Branching)
       → WalksTo t.instance.now before first (b ∷ pending) → WalksTo t.instance.now after first pending
@@ -111,12 +111,12 @@ pub record IsDone (t : Task) (b : Branching) (before after : TreeProgress) : Typ
   pub enough : MayBeWhole t b before → before.stopped ≡ false → after.stopped ≡ false
 
 -- the line was added at the branch: whatever cutoff the lines prove with it, it is sound there for that cutoff
-abbrev pub IsLastLine : Task → Branching → TreeLine → TreeProgress → TreeProgress → Type 0
+abbrev pub IsLastLine : SearchTask → Branching → TreeLine → TreeProgress → TreeProgress → Type 0
 IsLastLine t b line before after = (first pending : List Branching) (target : ℕ) → WalksTo t.instance.now before first (b ∷ pending)
     → Proves t.instance.now after first target → IsSoundLine t.instance.now (cuts_of t.instance.now before) target b line
 
 -- in the place of the branch its two children on the free node are to be filled
-pub record IsHalved (t : Task) (b : Branching) (k : ℕ) (before after : TreeProgress) : Type 0 where
+pub record IsHalved (t : SearchTask) (b : Branching) (k : ℕ) (before after : TreeProgress) : Type 0 where
   pub free : Contains b.free k
   pub going : IsGoing t after
   pub walks : (first pending : List Branching) → WalksTo t.instance.now before first (b ∷ pending)
@@ -127,13 +127,13 @@ pub record IsHalved (t : Task) (b : Branching) (k : ℕ) (before after : TreePro
   pub stopped : after.stopped ≡ before.stopped
 
 -- a heuristic made its proposal: the branch has been filled, or the search goes on, and two nodes more are allowed
-abbrev pub IsAdvised : Task → Branching → TreeProgress → TreeProgress → Bool → Type 0
+abbrev pub IsAdvised : SearchTask → Branching → TreeProgress → TreeProgress → Bool → Type 0
 IsAdvised t b before after true = IsDone t b before after
 IsAdvised t b before after false = IsAt t before after × AreWithin t.nodes (after.made + 2)
 
 -- the lines lead from the root to the end, one for each node; no more than a whole tree has, and no stop came where
 -- as many are allowed
-pub record IsOver (t : Task) (s : TreeProgress) : Type 0 where
+pub record IsOver (t : SearchTask) (s : TreeProgress) : Type 0 where
   pub going : IsGoing t s
   pub walks : WalksTo t.instance.now s (root t.instance.now ∷ []) []
   pub best : (target : ℕ) → Proves t.instance.now s (root t.instance.now ∷ []) target → Says target s.left

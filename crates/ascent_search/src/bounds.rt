@@ -12,7 +12,7 @@ ghost use Rattle.ascent_search.specs.Progressing.{cuts_of, IsGoing};
 ghost use Rattle.ascent_search.specs.SingleCuts.{AreLoads, AreLentOf, IsOnCut, IsOnNone, cut_bound, ClosesBy};
 
 use crate::progress::{TreeProgress, goal};
-use crate::task::Task;
+use crate::task::SearchTask;
 use crate::walk::Walk;
 use hub_model::{Branch, Instance};
 use leaf_bound::{Weighting, threshold};
@@ -72,7 +72,12 @@ pub(crate) fn bare_bound(instance: &Instance, branch: &Branch) -> i128
 }
 
 /// The bound of the branch by the stored cut of this number alone.
-pub(crate) fn kept_bound(task: &Task, branch: &Branch, progress: &TreeProgress, number: u64) -> i128
+pub(crate) fn kept_bound(
+    task: &SearchTask,
+    branch: &Branch,
+    progress: &TreeProgress,
+    number: u64,
+) -> i128
     requires going { IsGoing task.now progress.now }
     requires branch { IsBranch task.now.instance.now branch.now }
     requires room { HasRoom task.now.instance.now.wanted branch.now }

@@ -17,7 +17,7 @@ ghost use Rattle.ascent_search.specs.SingleCuts.{ClosesBy, weights_on, IsChoice,
 
 use crate::bounds::{bare_bound, is_above, kept_bound};
 use crate::progress::{TreeProgress, end_with, goal, offer};
-use crate::task::Task;
+use crate::task::SearchTask;
 use crate::walk::Walk;
 use cut_pool::KeptCut;
 use hub_model::{Branch, HubSet, Mix, TreeLine, outside};
@@ -126,7 +126,7 @@ pub(crate) struct OrderedSet {
     pub(crate) order: Vec<u32>,
 }
 
-fn with_order(alloc: Global, task: &Task, set: HubSet) -> Result<OrderedSet, AllocError>
+fn with_order(alloc: Global, task: &SearchTask, set: HubSet) -> Result<OrderedSet, AllocError>
     requires { IsHubSet task.now.instance.now set }
     ensures { IfOk result (IsOrderedSet task.now.instance.now set) }
 {
@@ -137,7 +137,7 @@ fn with_order(alloc: Global, task: &Task, set: HubSet) -> Result<OrderedSet, All
 // Makes the set the incumbent, if it costs less. Its cost is the total of its cut plus its fixed costs.
 fn offer_set(
     alloc: Global,
-    task: &Task,
+    task: &SearchTask,
     set: &HubSet,
     total: u128,
     progress: &mut TreeProgress,
@@ -164,7 +164,7 @@ pub(crate) struct Choice {
     pub(crate) bound: i128,
 }
 
-fn best_choice(task: &Task, branch: &Branch, progress: &TreeProgress) -> Choice
+fn best_choice(task: &SearchTask, branch: &Branch, progress: &TreeProgress) -> Choice
     requires going { IsGoing task.now progress.now }
     requires branch { IsBranch task.now.instance.now branch.now }
     requires room { HasRoom task.now.instance.now.wanted branch.now }

@@ -13,7 +13,7 @@
 //!
 //! The contracts: a certificate that holds, with least routes; its cost is at most that of the first incumbent; its
 //! bound is the best that its own tree proves. Each step keeps `Progressing` of the specs: the lines lead from the root
-//! to the pending branches (`search_spec::walks`). In the order of reading: `task` (`Task`), `progress` (`TreeProgress`),
+//! to the pending branches (`search_spec::walks`). In the order of reading: `task` (`SearchTask`), `progress` (`TreeProgress`),
 //! `bench` (`Bench`, the workspace of exact computations), `walk` (`Walk`), `walker` (`Walker`), `optimizing`. Costs
 //! are in 10^-12; nodes are `u32`, counted from 0, cuts from 1.
 #![tactic(auto)]
@@ -37,4 +37,4 @@ mod walking;
 
 pub use laws::all_candidates_serve;
 pub use optimizing::{optimize, optimize_within};
-pub use task::Task;
+pub use task::SearchTask;

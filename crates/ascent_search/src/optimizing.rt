@@ -12,7 +12,7 @@ ghost use Rattle.ascent_search.specs.Gaps.{most_gap, IsWithinGap};
 ghost use Rattle.ascent_search.specs.Progressing.{AreFirstHubs, IsWantedAs, IsFirst, IsGoing, IsDone, IsOver, IsBestBound};
 
 use crate::progress::{TreeProgress, target, wanted_set};
-use crate::task::Task;
+use crate::task::SearchTask;
 use crate::walker::Walker;
 use assign_sub::{assign, cost_of_set};
 use cut_pool::{Found, KeptCuts};
@@ -60,7 +60,7 @@ pub fn optimize<R: Threads + Sync, A: Advice + Drop>(
     ensures enough { IsEnough (2 ^ (length instance.now.candidates + 1)) nodes → IfOk result (λ found. found.bound ≡ found.cost) }
     ensures whole { nodes ≡ None → IfOk result (λ found. found.bound ≡ found.cost) }
 {
-    let task = Task {
+    let task = SearchTask {
         instance,
         nodes,
         gap: 0,
@@ -77,7 +77,7 @@ pub fn optimize<R: Threads + Sync, A: Advice + Drop>(
 pub fn optimize_within<R: Threads + Sync, A: Advice + Drop>(
     rt: &R,
     alloc: Global,
-    task: &Task,
+    task: &SearchTask,
     advice: A,
 ) -> Result<Found, AllocError>
     requires lacks_none { IsHubSet task.now.instance.now task.now.instance.now.candidates }
@@ -106,7 +106,7 @@ pub fn optimize_within<R: Threads + Sync, A: Advice + Drop>(
 fn fill_tree<'a, R: Threads + Sync, A: Advice + Drop>(
     rt: &'a R,
     alloc: Global,
-    task: &'a Task<'a>,
+    task: &'a SearchTask<'a>,
     advice: A,
     begun: TreeProgress,
 ) -> Result<TreeProgress, AllocError>
@@ -123,7 +123,7 @@ fn fill_tree<'a, R: Threads + Sync, A: Advice + Drop>(
 
 // The state at the start: no cut, no line, and the cheaper of two incumbents: the instance's own, and the first nodes
 // of the task.
-fn begin(alloc: Global, task: &Task) -> Result<TreeProgress, AllocError>
+fn begin(alloc: Global, task: &SearchTask) -> Result<TreeProgress, AllocError>
     requires lacks_none { IsHubSet task.now.instance.now task.now.instance.now.candidates }
     requires gap { task.now.gap ≤ most_gap }
     ensures going { IfOk result (IsGoing task.now) }
@@ -153,7 +153,7 @@ struct Incumbent {
 
 // The hubs of the instance's first incumbent, or the first nodes of the task, where they are a wanted hub set and cost
 // less.
-fn first_incumbent(alloc: Global, task: &Task) -> Result<Incumbent, AllocError>
+fn first_incumbent(alloc: Global, task: &SearchTask) -> Result<Incumbent, AllocError>
     requires lacks_none { IsHubSet task.now.instance.now task.now.instance.now.candidates }
     ensures problem { IsProblem task.now.instance.now }
     ensures first { IfOk result (λ first. IsFirst task.now first.hubs first.cost) }
@@ -169,7 +169,7 @@ fn first_incumbent(alloc: Global, task: &Task) -> Result<Incumbent, AllocError>
 }
 
 // The incumbent, or the first nodes of the task where they cost less.
-fn cheaper(task: &Task, own: Incumbent, given: HubSet) -> Incumbent
+fn cheaper(task: &SearchTask, own: Incumbent, given: HubSet) -> Incumbent
     requires first { AreFirstHubs task.now.instance.now own.hubs }
     requires cost { IsSetCost task.now.instance.now own.hubs own.cost }
     requires given { IsWantedAs task.now.instance.now task.now.first.now given }
@@ -186,7 +186,7 @@ fn cheaper(task: &Task, own: Incumbent, given: HubSet) -> Incumbent
 }
 
 // The incumbent with its least routes, and the lower bound on the cost of every plan.
-fn finish(alloc: Global, task: &Task, progress: TreeProgress) -> Result<Found, AllocError>
+fn finish(alloc: Global, task: &SearchTask, progress: TreeProgress) -> Result<Found, AllocError>
     requires { IsOver task.now progress }
     ensures proved { IfOk result (IsProved task.now.instance.now) }
     ensures own { IfOk result AreRemade }

@@ -14,11 +14,11 @@ ghost use Rattle.ascent_search.specs.Ends.{IsEndLine};
 ghost use Rattle.ascent_search.specs.Gaps.{goal_of};
 ghost use Rattle.ascent_search.specs.Progressing.{cuts_of, target_of, IsWantedAs, IsGoing, IsAt, IsDone, IsLastLine, IsHalved};
 
-use crate::task::{MOST_GAP, Task};
+use crate::task::{MOST_GAP, SearchTask};
 use assign_sub::{cost_of_set, lacking};
 use cut_pool::KeptCuts;
 use hub_model::{Branch, HubSet, Instance, TreeLine, has_wanted, is_candidate_set};
-use search_core::{add_line, lesser};
+use search_core::{Task, add_line, lesser};
 use std::alloc::{AllocError, Global};
 
 /// Cuts, tree lines, incumbent with its cost, number of nodes, whether the search was stopped, and `left`: the least
@@ -42,7 +42,7 @@ pub(crate) fn target(progress: &TreeProgress) -> u128
 }
 
 /// The cutoff of a leaf before a stop, in 10^-12: the incumbent's cost less the gap.
-pub(crate) fn goal(task: &Task, progress: &TreeProgress) -> u128
+pub(crate) fn goal(task: &SearchTask, progress: &TreeProgress) -> u128
     requires { IsGoing task.now progress.now }
     ensures value { result ≡ goal_of task.now.gap progress.now.cost }
     ensures limit { result ≤ most_cost }
@@ -52,7 +52,7 @@ pub(crate) fn goal(task: &Task, progress: &TreeProgress) -> u128
 
 /// Ends the branch with a line, unless the tree is as long as a certificate's can be.
 pub(crate) fn end_with(
-    task: &Task,
+    task: &SearchTask,
     branch: &Branch,
     line: TreeLine,
     progress: &mut TreeProgress,
@@ -71,7 +71,7 @@ pub(crate) fn end_with(
 
 /// Adds the line of a branching on the free node, which makes two more nodes.
 pub(crate) fn split_on(
-    task: &Task,
+    task: &SearchTask,
     branch: &Branch,
     k: u32,
     progress: &mut TreeProgress,
@@ -88,16 +88,16 @@ pub(crate) fn split_on(
 }
 
 /// Returns whether two more nodes are allowed.
-pub(crate) fn may_split(task: &Task, progress: &TreeProgress) -> bool
+pub(crate) fn may_split(task: &SearchTask, progress: &TreeProgress) -> bool
     requires { IsGoing task.now progress.now }
     ensures may { IsTrue result → AreWithin task.now.nodes (progress.now.made + 2) }
     ensures spent { result ≡ false → IsSpent task.now.nodes progress.now.made }
 {
-    search_core::Task::new(task.instance, task.nodes).allows_two(progress.made)
+    Task::new(task.instance, task.nodes).allows_two(progress.made)
 }
 
 /// Makes the wanted set the incumbent, if it costs less.
-pub(crate) fn offer(task: &Task, set: HubSet, cost: u128, progress: &mut TreeProgress)
+pub(crate) fn offer(task: &SearchTask, set: HubSet, cost: u128, progress: &mut TreeProgress)
     requires going { IsGoing task.now progress.old }
     requires set { IsHubSet task.now.instance.now set }
     requires wanted { HasWanted task.now.instance.now set }
@@ -115,7 +115,7 @@ pub(crate) fn offer(task: &Task, set: HubSet, cost: u128, progress: &mut TreePro
 /// Makes the nodes the incumbent, if they are a feasible set of candidates of the wanted number, and cost less.
 pub(crate) fn offer_nodes(
     alloc: Global,
-    task: &Task,
+    task: &SearchTask,
     hubs: &[u32],
     progress: &mut TreeProgress,
 ) -> Result<(), AllocError>

@@ -7,7 +7,7 @@ pub(crate) const MOST_GAP: u32 = 100_000;
 
 /// The task of a search.
 #[derive(Clone, Copy)]
-pub struct Task<'a> {
+pub struct SearchTask<'a> {
     /// The instance.
     pub instance: &'a Instance,
     /// The limit on the nodes of the tree, with the root; `None` is no limit.

@@ -4,14 +4,14 @@ ghost use Rattle.std.specs.Prelude.{◌≡◌, IfOk};
 
 use crate::bench::Bench;
 use crate::progress::TreeProgress;
-use crate::task::Task;
+use crate::task::SearchTask;
 use std::alloc::{AllocError, Global};
 
 /// The walk over the tree: its task, the workspace for the instance, and the state so far.
 #[derive(Drop)]
 pub(crate) struct Walk<'a> {
     pub(crate) alloc: Global,
-    pub(crate) task: &'a Task<'a>,
+    pub(crate) task: &'a SearchTask<'a>,
     pub(crate) bench: Bench<'a>,
     pub(crate) progress: TreeProgress,
 }
@@ -20,7 +20,7 @@ impl<'a> Walk<'a> {
     /// A walk that goes on from this state, for values in this unit, in 10^-6 per unit of flow.
     pub(crate) fn new(
         alloc: Global,
-        task: &'a Task<'a>,
+        task: &'a SearchTask<'a>,
         unit: u64,
         progress: TreeProgress,
     ) -> Result<Walk<'a>, AllocError>

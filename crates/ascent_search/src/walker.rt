@@ -4,7 +4,7 @@ ghost use Rattle.std.specs.Prelude.{◌≡◌, IfOk};
 
 use crate::guide::Guide;
 use crate::progress::TreeProgress;
-use crate::task::Task;
+use crate::task::SearchTask;
 use crate::walk::Walk;
 use search_advice::Advice;
 use std::alloc::{AllocError, Global};
@@ -22,7 +22,7 @@ impl<'a, R, A: Advice + Drop> Walker<'a, R, A> {
     pub(crate) fn new(
         rt: &'a R,
         alloc: Global,
-        task: &'a Task<'a>,
+        task: &'a SearchTask<'a>,
         advice: A,
         progress: TreeProgress,
     ) -> Result<Walker<'a, R, A>, AllocError>

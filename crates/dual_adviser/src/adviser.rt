@@ -8,10 +8,10 @@ use crate::branching::listed;
 use crate::fitting::Fitting;
 use crate::memory::Memory;
 use crate::node::Node;
-use crate::progress::Progress;
+use crate::progress::NodeProgress;
 use crate::sets::Sets;
-use ascent_lengths::{Lengths, PlaceValues, Workers, copy};
-use dual_ascent::{Bench, State, Turned};
+use ascent_lengths::{Lengths, PassWorkers, PlaceValues, copy};
+use dual_ascent::{PassSpace, State, Turned};
 use hub_model::Instance;
 use hub_moves::LocalSearch;
 use search_advice::{Advice, Side};
@@ -33,8 +33,8 @@ pub struct Adviser {
     pub(crate) state: State,
     pub(crate) node: Node,
     pub(crate) sets: Sets,
-    pub(crate) progress: Progress,
-    pub(crate) bench: Bench,
+    pub(crate) progress: NodeProgress,
+    pub(crate) bench: PassSpace,
     pub(crate) search: LocalSearch,
     pub(crate) fitting: Fitting,
     pub(crate) found: PlaceValues,
@@ -67,8 +67,8 @@ impl Adviser {
             workers,
             state: State::new(alloc, size, places)?,
             sets: Sets::new(alloc, places)?,
-            progress: Progress::new(alloc)?,
-            bench: Bench::new(alloc, &lengths, &node.core)?,
+            progress: NodeProgress::new(alloc)?,
+            bench: PassSpace::new(alloc, &lengths, &node.core)?,
             search: LocalSearch::new(alloc, size, places)?,
             fitting: Fitting::new(alloc, places)?,
             found: PlaceValues::new(alloc, places)?,
@@ -93,8 +93,8 @@ impl Adviser {
     }
 
     /// The workers.
-    pub(crate) fn workers<'a, R>(&self, rt: &'a R, alloc: Global) -> Workers<'a, R> {
-        Workers {
+    pub(crate) fn workers<'a, R>(&self, rt: &'a R, alloc: Global) -> PassWorkers<'a, R> {
+        PassWorkers {
             rt,
             alloc,
             count: self.workers,
@@ -114,7 +114,7 @@ impl Adviser {
     /// Makes one pass, and completes the duals where the bound seems to reach the cutoff.
     fn pass<R: Threads + Sync>(
         &mut self,
-        workers: &Workers<'_, R>,
+        workers: &PassWorkers<'_, R>,
         wanted: i128,
     ) -> Result<(), AllocError>
         ensures { KeepsShape self.old self.new }

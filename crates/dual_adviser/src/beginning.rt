@@ -5,8 +5,8 @@ ghost use Rattle.dual_ascent.specs.Shapes.{KeepsShape};
 use crate::adviser::Adviser;
 use crate::fitting::{Manner, Scope};
 use crate::single::fit_single;
-use ascent_lengths::{Lengths, Workers, at, copy, fill, marked};
-use dual_ascent::{Bench, NO_GAIN};
+use ascent_lengths::{Lengths, PassWorkers, at, copy, fill, marked};
+use dual_ascent::{NO_GAIN, PassSpace};
 use dual_flow::FULL_PRICE;
 use hub_moves::Ground;
 use std::alloc::{AllocError, Global};
@@ -40,7 +40,7 @@ impl Adviser {
     /// root caps and ramps follow from it. Returns whether the node is fathomed by that.
     pub(crate) fn begin<R: Threads + Sync>(
         &mut self,
-        workers: &Workers<'_, R>,
+        workers: &PassWorkers<'_, R>,
     ) -> Result<bool, AllocError>
         ensures { KeepsShape self.old self.new }
     {
@@ -69,7 +69,7 @@ impl Adviser {
     /// are rounded, they are made tight at the start set then.
     fn begin_single<R: Threads + Sync>(
         &mut self,
-        workers: &Workers<'_, R>,
+        workers: &PassWorkers<'_, R>,
         cost: i128,
     ) -> Result<bool, AllocError>
         ensures { KeepsShape self.old self.new }
@@ -92,7 +92,7 @@ impl Adviser {
     }
 
     /// Improves the start set, and returns its cost.
-    fn search_from_start<R: Threads + Sync>(&mut self, workers: &Workers<'_, R>) -> i128
+    fn search_from_start<R: Threads + Sync>(&mut self, workers: &PassWorkers<'_, R>) -> i128
         ensures { KeepsShape self.old self.new }
     {
         let ground = Ground {
@@ -107,7 +107,7 @@ impl Adviser {
     }
 
     /// Starts the root with ramps and caps from the start set, of this cost.
-    fn begin_root<R: Threads + Sync>(&mut self, workers: &Workers<'_, R>, cost: i128)
+    fn begin_root<R: Threads + Sync>(&mut self, workers: &PassWorkers<'_, R>, cost: i128)
         ensures { KeepsShape self.old self.new }
     {
         let unit = self.lengths.worth().max(1);
@@ -137,7 +137,7 @@ impl Adviser {
     /// Sets core, ramps and caps of the next pass, for this cutoff.
     pub(crate) fn prepare<R: Threads + Sync>(
         &mut self,
-        workers: &Workers<'_, R>,
+        workers: &PassWorkers<'_, R>,
         wanted: i128,
     ) -> Result<(), AllocError>
         ensures { KeepsShape self.old self.new }
@@ -168,7 +168,7 @@ impl Adviser {
     /// Chooses the core again where that is due, or where another place has a penalty.
     fn choose_core<R: Threads + Sync>(
         &mut self,
-        workers: &Workers<'_, R>,
+        workers: &PassWorkers<'_, R>,
         wanted: i128,
     ) -> Result<(), AllocError>
         ensures { KeepsShape self.old self.new }
@@ -198,7 +198,7 @@ impl Adviser {
     /// Completes the duals at the places outside the core.
     pub(crate) fn complete<R: Threads + Sync>(
         &mut self,
-        workers: &Workers<'_, R>,
+        workers: &PassWorkers<'_, R>,
     ) -> Result<(), AllocError>
         ensures { KeepsShape self.old self.new }
     {
@@ -228,10 +228,10 @@ fn renew(
     alloc: Global,
     lengths: &Lengths,
     core: &[usize],
-    bench: &mut Bench,
+    bench: &mut PassSpace,
 ) -> Result<(), AllocError> {
     if bench.core().places() != core {
-        *bench = Bench::new(alloc, lengths, core)?;
+        *bench = PassSpace::new(alloc, lengths, core)?;
     }
     Ok(())
 }

@@ -4,7 +4,7 @@ ghost use Rattle.std.specs.Prelude.{◌≡◌};
 ghost use Rattle.dual_ascent.specs.Shapes.{KeepsShape};
 
 use crate::adviser::Adviser;
-use ascent_lengths::{Lengths, Workers, put};
+use ascent_lengths::{Lengths, PassWorkers, put};
 use dual_ascent::{Trial, Tried, Turned};
 use dual_flow::FULL_PRICE;
 use search_advice::Side;
@@ -53,7 +53,7 @@ impl Adviser {
     /// at least a little above 0 and at most the gap. `wanted` is the cutoff.
     pub(crate) fn choose_branch<R: Threads + Sync>(
         &mut self,
-        workers: &Workers<'_, R>,
+        workers: &PassWorkers<'_, R>,
         wanted: i128,
     ) -> Result<(), AllocError>
         ensures { KeepsShape self.old self.new }
@@ -88,7 +88,7 @@ impl Adviser {
     /// The rise of the objective by a trial pass with the place on this side.
     fn rise<R: Threads + Sync>(
         &mut self,
-        workers: &Workers<'_, R>,
+        workers: &PassWorkers<'_, R>,
         trial: &Trial,
         place: usize,
         side: Side,

@@ -4,7 +4,7 @@ ghost use Rattle.std.specs.Prelude.{◌≤◌};
 ghost use Rattle.dual_ascent.specs.Shapes.{KeepsShape};
 
 use crate::origins::{Fitted, Origins};
-use ascent_lengths::{Lengths, Workers, at, copy, marked, short};
+use ascent_lengths::{Lengths, PassWorkers, at, copy, marked, short};
 use claim_board::answers;
 use dual_ascent::{State, Sums, Turn};
 use hub_io::OpenGate;
@@ -124,7 +124,7 @@ impl Fitting {
     /// Computes the duals in this manner, and returns the bound of the branch by them.
     pub(crate) fn fit<R: Threads + Sync>(
         &mut self,
-        workers: &Workers<'_, R>,
+        workers: &PassWorkers<'_, R>,
         lengths: &Lengths,
         state: &mut State,
         scope: Scope<'_>,
@@ -152,7 +152,7 @@ impl Fitting {
     /// The new duals of a batch of origins, from `first` on.
     fn fitted<'a, R: Threads + Sync>(
         &'a self,
-        workers: &Workers<'_, R>,
+        workers: &PassWorkers<'_, R>,
         lengths: &'a Lengths,
         state: &'a State,
         manner: Manner,
@@ -180,7 +180,7 @@ impl Fitting {
 }
 
 /// The number of origins in a batch.
-fn batch<R>(workers: &Workers<'_, R>) -> usize
+fn batch<R>(workers: &PassWorkers<'_, R>) -> usize
     ensures { 1 ≤ result }
 {
     (workers.many() as usize)

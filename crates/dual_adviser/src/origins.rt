@@ -2,7 +2,7 @@
 
 use crate::fitting::{Fitting, Manner};
 use crate::tight::{begin_tight, is_tight};
-use ascent_lengths::{Commodity, Lengths, PlaceValues, copy, put, row, row_mut};
+use ascent_lengths::{CommodityLengths, Lengths, PlaceValues, copy, put, row, row_mut};
 use claim_board::Job;
 use dual_ascent::{Quote, Sums};
 use std::alloc::{AllocError, Global};
@@ -52,7 +52,7 @@ impl<'a> Origins<'a> {
         values: &[u32],
     ) -> Option<u32> {
         let [i, j] = from;
-        let legs = Commodity::of(&self.lengths.tables, i, j);
+        let legs = CommodityLengths::of(&self.lengths.tables, i, j);
         let routes = &self.fitting.routes;
         let is_guess = self.manner == Manner::Guess;
         if is_guess && is_tight(routes, self.lengths, from, price, values) {

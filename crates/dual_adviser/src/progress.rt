@@ -43,17 +43,17 @@ const LITTLE_PART: i128 = 2;
 
 /// The best bound after each pass at a node, the present bound, both in 10^-12, and the result of the last pass.
 #[derive(Drop)]
-pub(crate) struct Progress {
+pub(crate) struct NodeProgress {
     pub(crate) is_root: bool,
     pub(crate) bound: i128,
     tops: Vec<i128>,
     gain: Gain,
 }
 
-impl Progress {
+impl NodeProgress {
     /// No progress yet, with room for all passes.
-    pub(crate) fn new(alloc: Global) -> Result<Progress, AllocError> {
-        Ok(Progress {
+    pub(crate) fn new(alloc: Global) -> Result<NodeProgress, AllocError> {
+        Ok(NodeProgress {
             is_root: true,
             bound: 0,
             tops: Vec::with_capacity(alloc, ROOT.most)?,

@@ -4,7 +4,7 @@ ghost use Rattle.dual_ascent.specs.Shapes.{KeepsShape};
 
 use crate::adviser::Adviser;
 use crate::fitting::{Manner, Scope};
-use ascent_lengths::Workers;
+use ascent_lengths::PassWorkers;
 use hub_moves::Ground;
 use std::alloc::AllocError;
 use std::thread::Threads;
@@ -24,7 +24,7 @@ impl Adviser {
     /// reaches the cutoff.
     pub(crate) fn round<R: Threads + Sync>(
         &mut self,
-        workers: &Workers<'_, R>,
+        workers: &PassWorkers<'_, R>,
         wanted: i128,
     ) -> Result<(), AllocError>
         ensures { KeepsShape self.old self.new }
@@ -52,7 +52,7 @@ impl Adviser {
     /// Makes the duals tight at the rounded set, if the bound then reaches the cutoff.
     pub(crate) fn finish<R: Threads + Sync>(
         &mut self,
-        workers: &Workers<'_, R>,
+        workers: &PassWorkers<'_, R>,
         wanted: i128,
     ) -> Result<(), AllocError>
         ensures { KeepsShape self.old self.new }

@@ -1,13 +1,13 @@
 //! The dual of a commodity that is tight at a hub set.
 
-use ascent_lengths::{Commodity, Lengths, PlaceValues, at};
-use hub_moves::{Route, SetRoutes};
+use ascent_lengths::{CommodityLengths, Lengths, PlaceValues, at};
+use hub_moves::{SetRoutes, ShortRoute};
 
 /// The shortest route of a commodity over a set, the price that is tight at it, and the values of the route's hubs.
 /// With one hub, only `first` counts.
 #[derive(Clone, Copy)]
 struct TightRoute {
-    route: Route,
+    route: ShortRoute,
     price: u32,
     first: u32,
     last: u32,
@@ -75,7 +75,7 @@ pub(crate) fn begin_tight(
     found: &mut PlaceValues,
 ) -> u32 {
     let [i, j] = from;
-    let legs = Commodity::of(&lengths.tables, i, j);
+    let legs = CommodityLengths::of(&lengths.tables, i, j);
     let tight = tight_route(routes, lengths, from, values);
     found.begin_from(&legs, tight.price.wrapping_add(lengths.slack()), values);
     for k in routes.hubs() {

@@ -32,8 +32,8 @@ mod sums;
 mod trials;
 mod waits;
 
-pub use origins::Terms;
-pub use passes::Bench;
+pub use origins::OriginTerms;
+pub use passes::PassSpace;
 pub use ramps::{NO_RAMP, NO_TURN, Ramp, Slope, Turn, set_order, set_prices};
 pub use state::{State, Turned};
 pub use sums::Sums;

@@ -4,14 +4,14 @@ use crate::passes::Pass;
 use crate::ramps::{NO_TURN, Ramp, Turn, balanced, is_enough, set_order, set_prices};
 use crate::steps::{Steps, mixed};
 use crate::waits::{Gain, NO_GAIN, Quote};
-use ascent_lengths::{Commodity, at, copy, gather, row, row_mut};
+use ascent_lengths::{CommodityLengths, at, copy, gather, row, row_mut};
 use dual_flow::{BestDual, FULL_PRICE, Priced};
 use std::alloc::{AllocError, Global};
 
 /// What a pass reads of a node: a ramp for each place that it sees, an upper bound on each commodity's price, and
 /// `little`, the promised gain in parts of full up to which a commodity is left out next.
 #[derive(Clone, Copy)]
-pub struct Terms<'a> {
+pub struct OriginTerms<'a> {
     /// The ramp of each place.
     pub ramps: &'a [Ramp],
     /// The upper bound on the price of each commodity.
@@ -26,7 +26,7 @@ pub struct Terms<'a> {
     pub coarse: i64,
 }
 
-impl Terms<'_> {
+impl OriginTerms<'_> {
     /// The cost of each hub beside its fixed cost at these loads, at which the penalties add up to p hubs. Where any
     /// number will do, they add up to one hub at least, and the cost is not above 0.
     pub fn extra_at(&self, loads: &[i64]) -> i64 {
@@ -92,7 +92,7 @@ impl Stand {
     }
 
     /// Starts from these loads.
-    fn begin(&mut self, terms: Terms<'_>, loads: &[i64]) {
+    fn begin(&mut self, terms: OriginTerms<'_>, loads: &[i64]) {
         let extra = terms.extra_at(loads);
         for (start, load) in self.changes.iter_mut().zip(loads) {
             *start = load.wrapping_sub(extra);
@@ -131,7 +131,7 @@ impl Stand {
         values: &mut [u32],
     ) -> Gain {
         let (terms, lengths, [i, j]) = (pass.terms, pass.lengths, from);
-        let legs = Commodity::of(&pass.core.tables, i, j);
+        let legs = CommodityLengths::of(&pass.core.tables, i, j);
         let flow = at(lengths.flows(i), j) as i64;
         if !self.is_split {
             self.split(terms.coarse);

@@ -6,7 +6,7 @@
 
 ghost use Rattle.dual_ascent.specs.Shapes.{KeepsShape};
 
-use crate::origins::{Stand, Terms};
+use crate::origins::{OriginTerms, Stand};
 use crate::ramps::{NO_RAMP, NO_TURN, Ramp, Turn};
 use crate::schedule::{Window, schedule};
 use crate::seen::Core;
@@ -14,7 +14,7 @@ use crate::sharing::better_together;
 use crate::state::State;
 use crate::sums::Sums;
 use crate::waits::{Gain, NO_GAIN, Quote};
-use ascent_lengths::{Lengths, Workers, add, copy, fill, gather, put, row, row_mut};
+use ascent_lengths::{Lengths, PassWorkers, add, copy, fill, gather, put, row, row_mut};
 use std::alloc::{AllocError, Global};
 use std::thread::Threads;
 
@@ -24,7 +24,7 @@ use std::thread::Threads;
 pub(crate) struct Pass<'a> {
     pub(crate) lengths: &'a Lengths,
     pub(crate) core: &'a Core,
-    pub(crate) terms: Terms<'a>,
+    pub(crate) terms: OriginTerms<'a>,
     pub(crate) origins: &'a [Turn],
     pub(crate) window: Window,
 }
@@ -74,7 +74,7 @@ impl InTurn {
 
 /// The workspace of passes: the core with its ramps and loads, the order of the origins, and what one worker needs.
 #[derive(Drop)]
-pub struct Bench {
+pub struct PassSpace {
     core: Core,
     ramps: Vec<Ramp>,
     sums: Sums,
@@ -82,11 +82,15 @@ pub struct Bench {
     in_turn: InTurn,
 }
 
-impl Bench {
+impl PassSpace {
     /// A workspace for passes that see these places.
-    pub fn new(alloc: Global, lengths: &Lengths, places: &[usize]) -> Result<Bench, AllocError> {
+    pub fn new(
+        alloc: Global,
+        lengths: &Lengths,
+        places: &[usize],
+    ) -> Result<PassSpace, AllocError> {
         let rows = Window::of(lengths.size).origins;
-        Ok(Bench {
+        Ok(PassSpace {
             core: Core::of(alloc, lengths, places)?,
             ramps: vec![in alloc; NO_RAMP; places.len()]?,
             sums: Sums::new(alloc, places.len())?,
@@ -127,10 +131,10 @@ impl State {
     /// The result is the same for every number of workers. Where there is no memory for several, one makes the pass.
     pub fn pass<'a, R: Threads + Sync>(
         &mut self,
-        workers: &Workers<'_, R>,
+        workers: &PassWorkers<'_, R>,
         lengths: &'a Lengths,
-        terms: Terms<'a>,
-        bench: &'a mut Bench,
+        terms: OriginTerms<'a>,
+        bench: &'a mut PassSpace,
     ) -> Gain
         ensures { KeepsShape self.old self.new }
     {
@@ -139,7 +143,7 @@ impl State {
         let pass = Pass {
             lengths,
             core: &bench.core,
-            terms: Terms {
+            terms: OriginTerms {
                 ramps: &bench.ramps,
                 caps: terms.caps,
                 little: terms.little,
@@ -166,7 +170,7 @@ impl State {
 
 /// Makes the pass by several workers, or by one.
 fn better_pass<R: Threads + Sync>(
-    workers: &Workers<'_, R>,
+    workers: &PassWorkers<'_, R>,
     pass: Pass<'_>,
     in_turn: &mut InTurn,
     quotes: &mut [Quote],

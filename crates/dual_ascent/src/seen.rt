@@ -3,14 +3,14 @@
 //! Most places never get a penalty. Passes that see only those near one have shorter rows. The values of the other
 //! places are out of date until they are completed.
 
-use ascent_lengths::{Lengths, Tables};
+use ascent_lengths::{LengthTables, Lengths};
 use std::alloc::{AllocError, Global};
 
 /// Some places, ascending, and the tables over them, by their indices in the core.
 #[derive(Drop)]
 pub struct Core {
     places: Vec<usize>,
-    pub(crate) tables: Tables,
+    pub(crate) tables: LengthTables,
 }
 
 impl Core {

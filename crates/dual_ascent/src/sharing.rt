@@ -10,7 +10,7 @@ use crate::origins::Stand;
 use crate::passes::Pass;
 use crate::sums::Sums;
 use crate::waits::{Gain, NO_GAIN, Quote};
-use ascent_lengths::{Lengths, Workers, add, copy, row, row_mut, short};
+use ascent_lengths::{Lengths, PassWorkers, add, copy, row, row_mut, short};
 use desks::{Desk, Partner, Tickets, Told, desks};
 use std::alloc::{AllocError, Global};
 use std::thread::{Threads, join};
@@ -34,7 +34,7 @@ impl Told<()> for Bettered {
 /// The results of a worker: prices and back-offs of the origins that it improved, the values of the commodities that
 /// changed, and sums and gain of the whole pass.
 #[derive(Drop)]
-struct Crop {
+struct WorkerResult {
     origins: Vec<usize>,
     quotes: Vec<Quote>,
     commodities: Vec<usize>,
@@ -43,7 +43,7 @@ struct Crop {
     gain: Gain,
 }
 
-impl Crop {
+impl WorkerResult {
     /// Takes in the duals of an origin, given its values before and after.
     fn take(
         &mut self,
@@ -99,7 +99,7 @@ struct Share<'a> {
     values: Vec<u32>,
     // How many origins its sums include.
     over: usize,
-    crop: Crop,
+    crop: WorkerResult,
 }
 
 impl Share<'_> {
@@ -142,7 +142,7 @@ impl Share<'_> {
 
 impl Shared<'_> {
     // Works as the peer of this ring until the pass ends.
-    fn work(self, alloc: Global, desk: Desk<(), Bettered>) -> Result<Crop, AllocError> {
+    fn work(self, alloc: Global, desk: Desk<(), Bettered>) -> Result<WorkerResult, AllocError> {
         let pass = self.pass;
         let mut share = Share {
             shared: self,
@@ -150,7 +150,7 @@ impl Shared<'_> {
             stand: Stand::new(alloc, pass.core.count())?,
             values: vec![in alloc; 0; pass.lengths.origin_values()]?,
             over: 0,
-            crop: Crop {
+            crop: WorkerResult {
                 origins: Vec::new(alloc),
                 quotes: Vec::new(alloc),
                 commodities: Vec::new(alloc),
@@ -173,7 +173,7 @@ impl Shared<'_> {
     }
 
     // The same, and signals that it ended or failed.
-    fn follow(self, alloc: Global, desk: Desk<(), Bettered>) -> Result<Crop, AllocError> {
+    fn follow(self, alloc: Global, desk: Desk<(), Bettered>) -> Result<WorkerResult, AllocError> {
         let crop = self.work(alloc, desk);
         match crop {
             Ok(_) => self.tickets.finish(),
@@ -190,7 +190,7 @@ fn together<R: Threads + Sync>(
     alloc: Global,
     shared: Shared<'_>,
     mut desks: Vec<Desk<(), Bettered>>,
-) -> Result<Vec<Crop>, AllocError> {
+) -> Result<Vec<WorkerResult>, AllocError> {
     let Some(desk) = desks.pop() else {
         return Ok(Vec::new(alloc));
     };
@@ -199,10 +199,10 @@ fn together<R: Threads + Sync>(
         crops.push(shared.follow(alloc, desk)?)?;
         return Ok(crops);
     }
-    let others = move || -> Result<Vec<Crop>, AllocError>
+    let others = move || -> Result<Vec<WorkerResult>, AllocError>
         requires { IsSync R.row }
     { together(rt, alloc, shared, desks) };
-    let mine = move || -> Result<Crop, AllocError> { shared.follow(alloc, desk) };
+    let mine = move || -> Result<WorkerResult, AllocError> { shared.follow(alloc, desk) };
     let (others, mine) = join(rt, others, mine);
     let mut crops = others?;
     crops.push(mine?)?;
@@ -212,7 +212,7 @@ fn together<R: Threads + Sync>(
 /// Makes the pass by several workers, at most as many as origins are under way. Updates duals and sums and returns the
 /// gain; on a failure nothing has changed.
 pub(crate) fn better_together<R: Threads + Sync>(
-    workers: &Workers<'_, R>,
+    workers: &PassWorkers<'_, R>,
     pass: Pass<'_>,
     quotes: &mut [Quote],
     values: &mut [u32],

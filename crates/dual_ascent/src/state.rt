@@ -4,10 +4,10 @@ ghost use Rattle.std.specs.Prelude.{◌≡◌, ◌≤◌, length, IfOk};
 ghost use Rattle.hub_spec.specs.Limits.{most_nodes};
 ghost use Rattle.dual_ascent.specs.Shapes.{cells, KeepsShape};
 
-use crate::origins::Terms;
+use crate::origins::OriginTerms;
 use crate::sums::Sums;
 use crate::waits::{LONG_WAIT, NO_QUOTE, NO_WAIT, Quote};
-use ascent_lengths::{Commodity, Lengths, PlaceValues, at, copy, fill, put, row, row_mut};
+use ascent_lengths::{CommodityLengths, Lengths, PlaceValues, at, copy, fill, put, row, row_mut};
 use search_advice::Side;
 use std::alloc::{AllocError, Global};
 use std::marker::Model;
@@ -102,7 +102,7 @@ impl State {
     }
 
     /// The objective that passes increase, by the ramps of these terms, weighted by the flows.
-    pub fn objective(&self, terms: Terms<'_>) -> i128 {
+    pub fn objective(&self, terms: OriginTerms<'_>) -> i128 {
         self.sums.objective(terms)
     }
 
@@ -195,7 +195,7 @@ impl State {
             let flow = lengths.flow(c) as i64;
             if flow > 0 {
                 let values = row(&self.values, c, places);
-                let legs = Commodity::of(&lengths.tables, c / size, c % size);
+                let legs = CommodityLengths::of(&lengths.tables, c / size, c % size);
                 quote.price = found.greatest_price(&legs, values, lengths.longest());
                 sums.add_dual(flow, quote.price, values);
             }
@@ -277,7 +277,7 @@ impl Turned {
         let price = ascent_lengths::short(price);
         let limit = price.saturating_add(price / 64).saturating_add(1);
         let size = lengths.size.max(1);
-        let legs = Commodity::of(&lengths.tables, c / size, c % size);
+        let legs = CommodityLengths::of(&lengths.tables, c / size, c % size);
         if !legs.is_near(self.place, limit) {
             return false;
         }

@@ -1,6 +1,6 @@
 //! The sums of the duals of all commodities, and the bound by them.
 
-use crate::origins::Terms;
+use crate::origins::OriginTerms;
 use ascent_lengths::{Lengths, add, at, copy, fill};
 use dual_flow::FULL_PRICE;
 use search_advice::Side;
@@ -61,7 +61,7 @@ impl Sums {
 
     /// The objective that passes increase: total of the prices less the cost of the loads by their ramps, weighted by
     /// the flows.
-    pub(crate) fn objective(&self, terms: Terms<'_>) -> i128 {
+    pub(crate) fn objective(&self, terms: OriginTerms<'_>) -> i128 {
         let extra = terms.extra_at(&self.loads);
         let hubs = terms.hubs.unwrap_or(1) as i128;
         let beside = hubs.wrapping_mul(extra as i128);

@@ -2,13 +2,13 @@
 
 ghost use Rattle.dual_ascent.specs.Shapes.{KeepsShape};
 
-use crate::origins::Terms;
-use crate::passes::Bench;
+use crate::origins::OriginTerms;
+use crate::passes::PassSpace;
 use crate::seen::Core;
 use crate::state::{State, Turned, scatter};
 use crate::sums::Sums;
 use crate::waits::Quote;
-use ascent_lengths::{Lengths, PlaceValues, Workers, at, row};
+use ascent_lengths::{Lengths, PassWorkers, PlaceValues, at, row};
 use std::alloc::{AllocError, Global};
 use std::thread::Threads;
 
@@ -60,9 +60,9 @@ impl Trial {
     /// changes sides. Afterwards the duals are as before.
     pub fn rise<R: Threads + Sync>(
         &self,
-        workers: &Workers<'_, R>,
+        workers: &PassWorkers<'_, R>,
         lengths: &Lengths,
-        bench: &mut Bench,
+        bench: &mut PassSpace,
         state: &mut State,
         tried: Tried<'_>,
     ) -> i128
@@ -93,5 +93,5 @@ pub struct Tried<'a> {
     /// The place that changes sides.
     pub turned: Turned,
     /// The terms of the pass.
-    pub terms: Terms<'a>,
+    pub terms: OriginTerms<'a>,
 }

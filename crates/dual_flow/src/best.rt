@@ -1,8 +1,8 @@
 //! The best dual of a commodity at given penalties of the hubs.
 
 use crate::network::{FULL_PRICE, Network};
-use crate::ways::Way;
-use ascent_lengths::{Commodity, FAR, PlaceValues, at, gather};
+use crate::ways::FlowPath;
+use ascent_lengths::{CommodityLengths, FAR, PlaceValues, at, gather};
 use std::alloc::{AllocError, Global};
 
 /// From this many priced places on, all of them are tried for a cap.
@@ -22,7 +22,7 @@ pub struct Priced<'a> {
 #[derive(Drop)]
 pub struct BestDual {
     network: Network,
-    way: Way,
+    way: FlowPath,
     singles: Vec<(u32, i64)>,
     places: Vec<usize>,
     collect: Vec<u32>,
@@ -35,7 +35,7 @@ impl BestDual {
     pub fn new(alloc: Global, places: usize) -> Result<BestDual, AllocError> {
         Ok(BestDual {
             network: Network::new(alloc, places)?,
-            way: Way::new(alloc, places)?,
+            way: FlowPath::new(alloc, places)?,
             singles: Vec::with_capacity(alloc, places)?,
             places: Vec::with_capacity(alloc, places)?,
             collect: vec![in alloc; FAR; places]?,
@@ -51,7 +51,13 @@ impl BestDual {
 
     /// Solves for the values of the priced places, and returns the commodity's price: at most `cap`. `last` is the
     /// price before. The other places have no values yet.
-    pub fn find(&mut self, legs: &Commodity<'_>, priced: Priced<'_>, cap: u32, last: u32) -> u32 {
+    pub fn find(
+        &mut self,
+        legs: &CommodityLengths<'_>,
+        priced: Priced<'_>,
+        cap: u32,
+        last: u32,
+    ) -> u32 {
         let cap = cap.min(self.single_cap(legs, priced, last));
         let legs = legs.below(cap);
         self.connect(&legs, priced, cap);
@@ -65,7 +71,7 @@ impl BestDual {
     }
 
     /// Sets the value of each of these places, in order, to the least that its routes require.
-    pub fn complete(&mut self, legs: &Commodity<'_>, others: &[usize]) {
+    pub fn complete(&mut self, legs: &CommodityLengths<'_>, others: &[usize]) {
         self.found.settle_asked(legs, others);
     }
 
@@ -74,7 +80,7 @@ impl BestDual {
     /// Two full units of flow are sent. Take the places with the shortest single routes whose penalties together reach
     /// two units: one has room left before the last unit is sent, so an augmenting path no longer than its single route
     /// is open. Places near the last price mostly suffice.
-    fn single_cap(&mut self, legs: &Commodity<'_>, priced: Priced<'_>, last: u32) -> u32 {
+    fn single_cap(&mut self, legs: &CommodityLengths<'_>, priced: Priced<'_>, last: u32) -> u32 {
         let is_thorough = last == 0 || priced.places.len() >= MANY;
         let most = if is_thorough { FAR } else { last };
         for more in [last / 16, last / 4, last, most] {
@@ -88,7 +94,12 @@ impl BestDual {
 
     /// The same over single routes no longer than the limit; none if the penalties of their places are below two full
     /// units.
-    fn cap_within(&mut self, legs: &Commodity<'_>, priced: Priced<'_>, limit: u32) -> Option<u32> {
+    fn cap_within(
+        &mut self,
+        legs: &CommodityLengths<'_>,
+        priced: Priced<'_>,
+        limit: u32,
+    ) -> Option<u32> {
         self.singles.clear();
         let mut sum = 0i64;
         for k in priced.places {
@@ -115,7 +126,7 @@ impl BestDual {
     }
 
     /// Builds the network of the priced places over which some route is shorter than the cap.
-    fn connect(&mut self, legs: &Commodity<'_>, priced: Priced<'_>, cap: u32) {
+    fn connect(&mut self, legs: &CommodityLengths<'_>, priced: Priced<'_>, cap: u32) {
         self.places.clear();
         for k in priced.places {
             if legs.is_near(*k, cap) {

@@ -6,7 +6,7 @@
 //! as long as a path is cheaper than the cap. Then the value of a place is half the sum of the potentials of its two
 //! copies.
 
-use crate::ways::Way;
+use crate::ways::FlowPath;
 use ascent_lengths::{NONE, at, fill, lower, lower_reduced, put, raise, row, row_mut, small};
 use std::alloc::{AllocError, Global};
 
@@ -138,7 +138,7 @@ impl Network {
     }
 
     /// Sends two full units of flow, and returns the potential of the sink, at most the cap.
-    pub(crate) fn solve(&mut self, cap: u32, way: &mut Way) -> u32 {
+    pub(crate) fn solve(&mut self, cap: u32, way: &mut FlowPath) -> u32 {
         let mut sink = 0;
         let mut wanted = 2 * FULL_PRICE as i32;
         for _ in 0..MOST_WAYS {

@@ -16,14 +16,14 @@ struct Arc {
 
 /// The arcs of a path from the source to the sink, the last one first. Between two arcs flow is taken back.
 #[derive(Drop)]
-pub(crate) struct Way {
+pub(crate) struct FlowPath {
     arcs: Vec<Arc>,
 }
 
-impl Way {
+impl FlowPath {
     /// An empty path with room for this many places.
-    pub(crate) fn new(alloc: Global, places: usize) -> Result<Way, AllocError> {
-        Ok(Way {
+    pub(crate) fn new(alloc: Global, places: usize) -> Result<FlowPath, AllocError> {
+        Ok(FlowPath {
             arcs: Vec::with_capacity(alloc, places.saturating_add(2))?,
         })
     }

@@ -8,7 +8,7 @@ ghost use Rattle.hub_words.specs.Requests.{IsGap, IsSearch};
 ghost use Rattle.hub_words.specs.Views.{search_seen};
 ghost use Rattle.hub_commands.specs.Solving.{IsClosed};
 
-use ascent_search::{Task, optimize_within};
+use ascent_search::{SearchTask, optimize_within};
 use cert_format::Certificate;
 use cut_pool::Found;
 use dual_adviser::Adviser;
@@ -42,7 +42,7 @@ pub fn close<R: Threads + Sync>(
         Some(certificate) => begin_with(alloc, instance, &certificate, &mut adviser)?,
         None => Vec::new(alloc),
     };
-    let task = Task {
+    let task = SearchTask {
         instance,
         nodes: asked.nodes,
         gap,

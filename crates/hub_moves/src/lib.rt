@@ -12,4 +12,4 @@ mod openings;
 mod routes;
 
 pub use moves::{Ground, LocalSearch};
-pub use routes::{Detours, Route, SetRoutes};
+pub use routes::{Detours, SetRoutes, ShortRoute};

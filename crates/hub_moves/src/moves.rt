@@ -1,7 +1,7 @@
 //! Local search over hub sets: opens, closes or swaps hubs while that costs less. For exactly p hubs it only swaps.
 
 use crate::openings::{Move, OpenSet, Opening, Openings};
-use ascent_lengths::{Lengths, Workers, at, copy, fill, put, row_mut};
+use ascent_lengths::{Lengths, PassWorkers, at, copy, fill, put, row_mut};
 use std::alloc::{AllocError, Global};
 use std::thread::Threads;
 
@@ -12,7 +12,7 @@ const MOST_ROUNDS: usize = 100;
 #[derive(Drop)]
 pub struct Ground<'a, R> {
     /// The workers.
-    pub workers: &'a Workers<'a, R>,
+    pub workers: &'a PassWorkers<'a, R>,
     /// The instance.
     pub lengths: &'a Lengths,
     /// The places that may be opened or closed.

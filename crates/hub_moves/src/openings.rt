@@ -1,8 +1,8 @@
 //! The cost of a hub set with one more hub. Workers try the candidates in blocks.
 
-use crate::routes::{NO_ROUTE, Route, SetRoutes};
+use crate::routes::{NO_ROUTE, SetRoutes, ShortRoute};
 use ascent_lengths::{
-    Commodity, FAR, Lengths, Workers, at, fill, least_sum, put, row, row_mut, short,
+    CommodityLengths, FAR, Lengths, PassWorkers, at, fill, least_sum, put, row, row_mut, short,
 };
 use claim_board::{Job, answers};
 use hub_io::OpenGate;
@@ -52,7 +52,7 @@ impl Tally {
 pub(crate) struct OpenSet {
     pub(crate) marks: Vec<bool>,
     pub(crate) routes: SetRoutes,
-    shortest: Vec<Route>,
+    shortest: Vec<ShortRoute>,
     pub(crate) closed: Option<usize>,
     base: Vec<u32>,
 }
@@ -224,7 +224,7 @@ impl<'a, 'b> Openings<'a, 'b> {
     /// The best of the given move and all openings, the first of equal ones, by several workers.
     pub(crate) fn best<R: Threads + Sync>(
         &self,
-        workers: &Workers<'_, R>,
+        workers: &PassWorkers<'_, R>,
         opening: &mut Opening,
         best: Move,
     ) -> Move {
@@ -270,7 +270,7 @@ impl<'a, 'b> Openings<'a, 'b> {
     /// The length of the shortest allowed route of a commodity over the place, alone or with a hub other than the closed
     /// one. No route over the place is shorter than `least`.
     fn length_with(&self, from: [usize; 2], k: usize, least: u32) -> u32 {
-        let legs = Commodity::of(&self.lengths.tables, from[0], from[1]);
+        let legs = CommodityLengths::of(&self.lengths.tables, from[0], from[1]);
         if legs.is_safe(least.wrapping_add(1)) {
             return least;
         }

@@ -1,11 +1,13 @@
 //! The shortest routes over a hub set, and those that leave one or two of its hubs out.
 
-use ascent_lengths::{Commodity, FAR, Table, Tables, at, fill, gather, row, row_mut, short};
+use ascent_lengths::{
+    CommodityLengths, FAR, LengthTables, Table, at, fill, gather, row, row_mut, short,
+};
 use std::alloc::{AllocError, Global};
 
 /// A shortest route: its first and last hub, as places, and its length.
 #[derive(Clone, Copy)]
-pub struct Route {
+pub struct ShortRoute {
     /// The first hub.
     pub first: usize,
     /// The last hub.
@@ -15,7 +17,7 @@ pub struct Route {
 }
 
 /// A route to fill vectors with.
-pub(crate) const NO_ROUTE: Route = Route {
+pub(crate) const NO_ROUTE: ShortRoute = ShortRoute {
     first: usize::MAX,
     last: usize::MAX,
     length: FAR,
@@ -26,7 +28,7 @@ pub(crate) const NO_ROUTE: Route = Route {
 #[derive(Clone, Copy)]
 pub struct Detours {
     /// The shortest route.
-    pub route: Route,
+    pub route: ShortRoute,
     /// The length without its first hub.
     pub without_first: u32,
     /// The length without its last hub.
@@ -37,24 +39,24 @@ pub struct Detours {
 
 /// The end of a route: from a hub by a last hub, a place, to a destination.
 #[derive(Clone, Copy)]
-struct Hop {
+struct RouteEnd {
     last: u32,
     length: u32,
 }
 
 /// A route end to fill vectors with.
-const NO_HOP: Hop = Hop {
+const NO_HOP: RouteEnd = RouteEnd {
     last: u32::MAX,
     length: FAR,
 };
 
 /// The three shortest route ends with different last hubs, in order.
 #[derive(Clone, Copy)]
-struct Hops([Hop; 3]);
+struct RouteEnds([RouteEnd; 3]);
 
-impl Hops {
+impl RouteEnds {
     /// Takes the route end in, if it is one of the shortest.
-    fn take(&mut self, hop: Hop) {
+    fn take(&mut self, hop: RouteEnd) {
         let [first, second, third] = self.0;
         if hop.length < first.length {
             self.0 = [hop, first, second];
@@ -66,7 +68,7 @@ impl Hops {
     }
 
     /// The shortest route end that avoids both places.
-    fn without(&self, left_out: [usize; 2]) -> Hop {
+    fn without(&self, left_out: [usize; 2]) -> RouteEnd {
         let [first, second, third] = self.0;
         if !left_out.contains(&(first.last as usize)) {
             first
@@ -84,7 +86,7 @@ pub struct SetRoutes {
     hubs: Vec<usize>,
     pub(crate) collect: Table,
     pub(crate) deliver: Table,
-    hops: Vec<Hops>,
+    hops: Vec<RouteEnds>,
 }
 
 impl SetRoutes {
@@ -94,7 +96,7 @@ impl SetRoutes {
             hubs: Vec::with_capacity(alloc, hubs)?,
             collect: Table::new(alloc, size, hubs)?,
             deliver: Table::new(alloc, size, hubs)?,
-            hops: vec![in alloc; Hops([NO_HOP; 3]); size.wrapping_mul(hubs)]?,
+            hops: vec![in alloc; RouteEnds([NO_HOP; 3]); size.wrapping_mul(hubs)]?,
         })
     }
 
@@ -104,7 +106,7 @@ impl SetRoutes {
     }
 
     /// Computes the routes over the marked places.
-    pub fn take(&mut self, tables: &Tables, marks: &[bool]) {
+    pub fn take(&mut self, tables: &LengthTables, marks: &[bool]) {
         self.hubs.clear();
         for (k, mark) in marks.iter().enumerate() {
             if *mark {
@@ -130,14 +132,14 @@ impl SetRoutes {
     }
 
     /// Computes the shortest route ends to the destination.
-    fn take_hops(&mut self, tables: &Tables, j: usize) {
+    fn take_hops(&mut self, tables: &LengthTables, j: usize) {
         let deliver = tables.legs.deliver.row(j);
         let rows = row_mut(&mut self.hops, j, self.hubs.len());
         for (hops, k) in rows.iter_mut().zip(&self.hubs) {
             let trunk = tables.legs.trunk.row(*k);
-            *hops = Hops([NO_HOP; 3]);
+            *hops = RouteEnds([NO_HOP; 3]);
             for m in &self.hubs {
-                hops.take(Hop {
+                hops.take(RouteEnd {
                     last: short(*m),
                     length: at(trunk, *m).wrapping_add(at(deliver, *m)),
                 });
@@ -146,13 +148,18 @@ impl SetRoutes {
     }
 
     /// The shortest route; ties by the order of the first hubs.
-    pub fn shortest(&self, tables: &Tables, i: usize, j: usize) -> Route {
+    pub fn shortest(&self, tables: &LengthTables, i: usize, j: usize) -> ShortRoute {
         self.without(tables, [i, j], [usize::MAX; 2])
     }
 
     /// The shortest route that avoids both places.
     #[inline(always)]
-    pub(crate) fn without(&self, tables: &Tables, from: [usize; 2], left_out: [usize; 2]) -> Route {
+    pub(crate) fn without(
+        &self,
+        tables: &LengthTables,
+        from: [usize; 2],
+        left_out: [usize; 2],
+    ) -> ShortRoute {
         let [i, j] = from;
         let collect = self.collect.row(i);
         let hops = row(&self.hops, j, self.hubs.len());
@@ -162,7 +169,7 @@ impl SetRoutes {
             let hop = hops[e].without(left_out);
             let length = collect[e].wrapping_add(hop.length);
             if length < found.length && !left_out.contains(&hubs[e]) {
-                found = Route {
+                found = ShortRoute {
                     first: hubs[e],
                     last: hop.last as usize,
                     length,
@@ -170,7 +177,7 @@ impl SetRoutes {
             }
         }
         if tables.has_limit() {
-            let legs = Commodity::of(tables, i, j);
+            let legs = CommodityLengths::of(tables, i, j);
             if !legs.is_safe(found.length.wrapping_add(1)) {
                 return self.shortest_allowed(&legs, j, left_out);
             }
@@ -179,7 +186,7 @@ impl SetRoutes {
     }
 
     /// The shortest route, and the lengths without its hubs.
-    pub fn detours(&self, tables: &Tables, i: usize, j: usize) -> Detours {
+    pub fn detours(&self, tables: &LengthTables, i: usize, j: usize) -> Detours {
         let route = self.shortest(tables, i, j);
         let (k, m) = (route.first, route.last);
         let length = |left_out| self.without(tables, [i, j], left_out).length;
@@ -198,7 +205,12 @@ impl SetRoutes {
     }
 
     /// The shortest allowed route that avoids these places, or none.
-    fn shortest_allowed(&self, legs: &Commodity<'_>, j: usize, left_out: [usize; 2]) -> Route {
+    fn shortest_allowed(
+        &self,
+        legs: &CommodityLengths<'_>,
+        j: usize,
+        left_out: [usize; 2],
+    ) -> ShortRoute {
         let hops = row(&self.hops, j, self.hubs.len());
         let mut found = NO_ROUTE;
         for (k, hops) in self.hubs.iter().zip(hops) {
@@ -209,7 +221,7 @@ impl SetRoutes {
                 for m in &self.hubs {
                     let length = onward.length(*m);
                     if length < found.length && !left_out.contains(m) {
-                        found = Route {
+                        found = ShortRoute {
                             first: *k,
                             last: *m,
                             length,

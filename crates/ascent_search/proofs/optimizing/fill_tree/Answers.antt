@@ -1,7 +1,7 @@
 use Rattle.std.proofs.Common.{sym, subst}
 use Rattle.hub_spec.specs.Trees.{Branching, IsBranch}
 use Rattle.hub_spec.proofs.ChildLists.{root_branch}
-use Rattle.ascent_search.specs.declared.task.Task.{Task}
+use Rattle.ascent_search.specs.declared.task.SearchTask.{SearchTask}
 use Rattle.ascent_search.specs.Progressing.{IsDone}
 use Rattle.ascent_search.proofs.Walks.{begun_walking, begun_done}
 use Rattle.ascent_search.proofs.optimizing.fill_tree.Goals as goal
@@ -14,7 +14,7 @@ node-requires-clause-walking g c = λ _ _.
 pub node-requires-clause-branch : goal.node-requires-clause-branch
 node-requires-clause-branch g c = λ _ _.
     (let p = c.args.task.now.instance.now in
-    subst (λ (t : Task). IsBranch t.instance.now c.in_ok-root.root) (sym c.in_ok-walker.ensures.task)
+    subst (λ (t : SearchTask). IsBranch t.instance.now c.in_ok-root.root) (sym c.in_ok-walker.ensures.task)
     (subst (IsBranch p) (sym c.in_ok-root.ensures) (root_branch p c.requires.going.problem)))
 
 pub returns : goal.returns

@@ -1,6 +1,6 @@
 use Rattle.std.proofs.Common.{subst}
 use Rattle.std.proofs.lemmas.Result.{on_ok_weaker}
-use Rattle.ascent_search.specs.declared.task.Task.{Task}
+use Rattle.ascent_search.specs.declared.task.SearchTask.{SearchTask}
 use Rattle.ascent_search.specs.Progressing.{IsDone}
 use Rattle.ascent_search.proofs.Steps.{at_done}
 use Rattle.ascent_search.proofs.walk.Walk.end_by_sums.Goals as goal
@@ -12,7 +12,7 @@ returns-then-closes-clause-done c =
     let after = c.cut_leaf.new.self.progress in
     on_ok_weaker c.cut_leaf.result
     (λ done. at_done c.args.self.now.task.now b c.args.self.now.progress kept after c.in_ok-number.ensures.at
-    (subst (λ (t : Task). IsDone t b kept after) c.in_ok-number.ensures.same.task done)) c.cut_leaf.ensures.done
+    (subst (λ (t : SearchTask). IsDone t b kept after) c.in_ok-number.ensures.same.task done)) c.cut_leaf.ensures.done
 
 pub returns-else-closes-clause-done : goal.returns-else-closes-clause-done
 returns-else-closes-clause-done c =
@@ -21,4 +21,4 @@ returns-else-closes-clause-done c =
     let after = c.stopped_leaf.new.self.progress in
     on_ok_weaker c.stopped_leaf.result
     (λ done. at_done c.args.self.now.task.now b c.args.self.now.progress kept after c.in_ok-number.ensures.at
-    (subst (λ (t : Task). IsDone t b kept after) c.in_ok-number.ensures.same.task done)) c.stopped_leaf.ensures.done
+    (subst (λ (t : SearchTask). IsDone t b kept after) c.in_ok-number.ensures.same.task done)) c.stopped_leaf.ensures.done

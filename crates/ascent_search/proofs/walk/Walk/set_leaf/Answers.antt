@@ -4,7 +4,7 @@ use Rattle.hub_spec.specs.Problem.{opening_cost}
 use Rattle.hub_spec.specs.Plans.{HasWanted, IsSetCost}
 use Rattle.hub_spec.specs.Cuts.{Cut}
 use Rattle.hub_spec.specs.Trees.{cut_at}
-use Rattle.ascent_search.specs.declared.task.Task.{Task}
+use Rattle.ascent_search.specs.declared.task.SearchTask.{SearchTask}
 use Rattle.ascent_search.specs.Gaps.{goal_of}
 use Rattle.ascent_search.specs.Progressing.{cuts_of, IsDone}
 use Rattle.ascent_search.specs.SingleCuts.{ClosesBy}
@@ -43,7 +43,7 @@ cut_leaf-requires-clause-closes c =
     let is_cost = subst (λ (hs : List ℕ). IsSetCost p hs cost) c.in_ok-ordered.ensures.hubs of_ordered in
     let gap = c.args.self.now.task.now.gap in
     let low : goal_of gap after.cost ≤ cost = omega (arith, goal_least gap after.cost, c.in_ok-number.ensures.cost, c.in_ok-offer_set.ensures.reached) in
-    subst (λ (t : Task). ClosesBy t.instance.now (cut_at (cuts_of t.instance.now after) c.in_ok-number.number) (goal_of t.gap after.cost) b)
+    subst (λ (t : SearchTask). ClosesBy t.instance.now (cut_at (cuts_of t.instance.now after) c.in_ok-number.number) (goal_of t.gap after.cost) b)
     (sym c.in_ok-number.ensures.same.task)
     (subst (λ (cut : Cut). ClosesBy p cut (goal_of gap after.cost) b) (sym c.in_ok-number.ensures.cut)
     (last_set_closes p b c.args.set ordered cost (goal_of gap after.cost) c.requires.walking.going.problem
@@ -59,5 +59,5 @@ returns-clause-done c =
     let after = c.cut_leaf.new.self.progress in
     on_ok_weaker c.cut_leaf.result
     (λ done. at_done t b before kept after (at_twice t before offered kept c.in_ok-offer_set.ensures.at c.in_ok-number.ensures.at)
-    (subst (λ (x : Task). IsDone x b kept after) c.in_ok-number.ensures.same.task done))
+    (subst (λ (x : SearchTask). IsDone x b kept after) c.in_ok-number.ensures.same.task done))
     c.cut_leaf.ensures.done

@@ -3,7 +3,7 @@ use Rattle.std.proofs.lemmas.Result.{on_ok_weaker}
 use Rattle.hub_spec.specs.Trees.{Branching, IsBranch}
 use Rattle.hub_spec.proofs.ChildLists.{open_branch, closed_branch}
 use Rattle.search_spec.proofs.Parting.{length-without}
-use Rattle.ascent_search.specs.declared.task.Task.{Task}
+use Rattle.ascent_search.specs.declared.task.SearchTask.{SearchTask}
 use Rattle.hub_model.specs.declared.tree_lines.TreeLine as model
 use Rattle.hub_model.specs.Lines.{tree_line_of}
 use Rattle.ascent_search.specs.Ends.{IsBarren}
@@ -29,7 +29,7 @@ node-returns-clause-done g t c =
     let advised = c.in_ok-end_by_advice.ensures in
     let went_on = subst (IsAdvised task b before middle) c.if-branch.false advised.advised in
     on_ok_weaker c.parted.result
-    (λ done. at_done task b before middle after went_on.0 (subst (λ (x : Task). IsDone x b middle after) advised.same.task done))
+    (λ done. at_done task b before middle after went_on.0 (subst (λ (x : SearchTask). IsDone x b middle after) advised.same.task done))
     c.parted.ensures.done
 
 pub parted-child-requires : goal.parted-child-requires
@@ -74,7 +74,7 @@ parted-child-requires-2 g t c = λ _ within.
             search rules,
             (
               walks_on _ c.child.new.self.walk same c.requires.walking.bench c.requires.walking.workers c.in_ok-child.ensures.done.going,
-              subst (λ (x : Task). IsBranch x.instance.now c.in_ok-closed.closed) (sym same.task)
+              subst (λ (x : SearchTask). IsBranch x.instance.now c.in_ok-closed.closed) (sym same.task)
                   (subst (IsBranch p) (sym child) (closed_branch p b c.branch_node-k.result c.requires.branch free)),
             ),
           ),
@@ -93,5 +93,5 @@ parted-returns-clause-done g t c =
     on_ok_weaker c.child-2.result
     (λ done. halved_done task b c.branch_node-k.result c.args.self.now.walk.progress begun middle after c.in_ok-split_on.ensures opened
     (subst (λ (x : Branching). IsDone task x middle after) c.in_ok-closed.ensures
-    (subst (λ (x : Task). IsDone x c.in_ok-closed.closed middle after) c.in_ok-child.ensures.same.task done)))
+    (subst (λ (x : SearchTask). IsDone x c.in_ok-closed.closed middle after) c.in_ok-child.ensures.same.task done)))
     c.child-2.ensures.done
