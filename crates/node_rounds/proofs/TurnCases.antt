@@ -1,5 +1,5 @@
 -- The outcome of a node evaluation, by the tests that the code makes.
-use Rattle.std.proofs.Common.{◌≡◌, ℕ, ◌≤◌, ◌<◌, Bool, true, false, not, ◌&&◌, nat_lt, ltb-true, List, [], ◌∷◌, length, get_or, map, Option, Some, None, is_some, refl, ap, sym, ◌∙◌, arith}
+use Rattle.std.proofs.Common.{◌≡◌, ℕ, ◌≤◌, ◌<◌, Bool, true, false, not, ◌&&◌, nat_lt, ltb-true, List, [], ◌∷◌, length, get_or, map, Option, Some, None, is_some, if◌then◌else◌, refl, ap, sym, ◌∙◌, arith}
 use Rattle.std.proofs.lemmas.Bool.{and_parts}
 use Rattle.std.proofs.lemmas.List.{length-append}
 use Rattle.hub_spec.specs.Problem.{Problem}
