@@ -110,7 +110,7 @@ impl Adviser {
     fn begin_root<R: Threads + Sync>(&mut self, workers: &PassWorkers<'_, R>, cost: i128)
         ensures { KeepsShape self.old self.new }
     {
-        let unit = self.lengths.worth().max(1);
+        let unit = self.lengths.worth();
         self.search.set_caps(&self.lengths, &mut self.node.caps);
         if self.lengths.wanted.is_some() {
             let ground = Ground {
@@ -119,7 +119,8 @@ impl Adviser {
                 movable: &self.sets.movable,
             };
             let worth = self.search.hub_worth(&ground, cost);
-            let worth = worth.saturating_add(self.lengths.least_fixed) / unit;
+            let worth = worth.saturating_add(self.lengths.least_fixed);
+            let worth = worth.checked_div(unit).unwrap_or(0);
             self.node.hub_worth = worth.clamp(0 - MOST_HUB_WORTH, MOST_HUB_WORTH) as i64;
             for (k, price) in self.node.prices.iter_mut().enumerate() {
                 *price = if at(&self.sets.start, k) {
@@ -129,7 +130,8 @@ impl Adviser {
                 };
             }
         } else if marked(&self.sets.start) == 1 {
-            let most = self.search.most_saved(&self.lengths) / unit;
+            let most = self.search.most_saved(&self.lengths);
+            let most = most.checked_div(unit).unwrap_or(0);
             self.node.most_saved = most.clamp(FULL_PRICE as i128, MOST_HUB_WORTH) as i64;
         }
     }
