@@ -1,4 +1,4 @@
-"""What `hub check` is to say of a text, worked out anew from docs/FORMATS.md, for small instances.
+"""What `hub check` is to say of a text, computed independently from docs/FORMATS.md, for small instances.
 
 Written apart from the program, as plainly as may be: the whole text is read, then each condition is tried in the order
 of the lines.
@@ -280,7 +280,7 @@ def holds(problem: Problem, found: Certificate) -> None:
 
 
 def sums_of(problem: Problem, cut: Cut, marks: bool) -> tuple[int, int, dict[int, int]]:
-    """The part of a cut, its prices together, and each candidate's values together, its mark tried too if marks are asked."""
+    """The part of a cut, its prices together, and each candidate's values together, its mark tried too if `marks` is set."""
     part, total = cut.part, 0
     loads = dict.fromkeys(problem.candidates, 0)
     asked = marks and cut.hubs is not None
@@ -308,7 +308,7 @@ def sums_of(problem: Problem, cut: Cut, marks: bool) -> tuple[int, int, dict[int
 
 
 def is_core(problem: Problem, cut: Cut, i: int, j: int, price: int, values: dict[int, int], proof: Proof) -> bool:
-    """Whether the dual of the commodity from i to j is a core dual at the hubs of the mark, by this proof."""
+    """Whether the dual of the commodity from i to j is best at the hubs of the mark, by this proof."""
     _, turns, scale, ways = proof
     flow = problem.flows[i - 1][j - 1]
     least = min(problem.route(i, j, k, m) for k in cut.hubs for m in cut.hubs)

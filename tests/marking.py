@@ -1,6 +1,6 @@
 """Certificates of the third version of the text: those of the second with marked cuts behind their own.
 
-The core dual of a commodity is found by exact fractions, with no regard to time, as the best solution of its linear program;
+The Pareto-optimal dual of a commodity is found by exact fractions, with no regard to time, as the best solution of its linear program;
 its objective row proves it. The program's own way to make them plays no part here.
 """
 

@@ -14,7 +14,7 @@ __all__ = ["Fault", "NoNetwork", "Problem", "Result", "solve"]
 
 
 def __getattr__(name: str) -> Any:
-    """What is loaded when it is asked for."""
+    """What is loaded at its first use."""
     if name not in __all__:
         raise AttributeError(f"module 'planning' has no attribute '{name}'")
     from . import problem

@@ -47,7 +47,7 @@ class Alternatives:
         return sorted(found, key=lambda line: line.cost)
 
     def missing(self) -> list[str]:
-        """What is told of each question without an answer."""
+        """The message for each question without an answer."""
         return [f"{self.asked(line)}: {line.outcome}" for line in self.lines if not line.is_answered()]
 
     def asked(self, line: Line) -> str:
@@ -87,7 +87,7 @@ class Alternatives:
         return "; ".join(f"{word} {self.named.names_of(nodes)}" for word, nodes in parts if nodes)
 
     def said(self) -> list[str]:
-        """What is told in few lines: the rise of each loss, and the further places that cost least."""
+        """A summary in few lines: the rise of each loss, and the further places that cost least."""
         told = []
         for kind, most in ((WITHOUT, None), (WITH, 3)):
             rises = [f"{self.named.names[line.node]} {self.short_rise(line)}" for line in self.of(kind)[:most]]

@@ -1,4 +1,4 @@
-"""What is asked of a network that is found: it without each of its hubs, and with further places as hubs."""
+"""Questions about a network that is found: it without each of its hubs, and with further places as hubs."""
 
 from __future__ import annotations
 
@@ -20,7 +20,7 @@ from .tables import Named
 from .tree_bounds import least_costs
 
 ALL_ASKED = 50
-"""In networks of so many places each one that is no hub is asked for."""
+"""In networks of at most this many places each one that is no hub is tried."""
 MOST_ASKED = 10
 """In greater ones so many, the best by the bound, unless another number was said."""
 
@@ -37,7 +37,7 @@ class Asking:
     search: dict[str, str]
     """The options of the search."""
     places: int | None = None
-    """How many further places are asked for; None where that goes by the size of the network."""
+    """How many further places are tried; None where the size of the network decides."""
 
     def candidates(self) -> list[int]:
         """The nodes that may be hubs."""
@@ -47,7 +47,7 @@ class Asking:
         return [int(node) - 1 for node in listed.split(",")]
 
     def further(self) -> list[int]:
-        """The places that are no hubs and are asked for, ascending. Where the number of hubs is given none is."""
+        """The places that are no hubs and are tried, ascending. Where the number of hubs is given none is."""
         if "hubs" in self.options.values:
             return []
         instance = self.named.network.instance
@@ -118,7 +118,7 @@ class Means:
 
 
 def ask_all(asking: Asking, means: Means, show: Callable[[int, int], None]) -> Alternatives:
-    """Asks all that is not answered in the folder yet; `show` is told how many are done, and of how many."""
+    """Asks all that is not answered in the folder yet; `show` gets how many are done, and of how many."""
     rows, lack = means.folder / "rows", asking.lack()
     questions = [] if lack else [(WITHOUT, hub) for hub in asking.named.network.plan.hubs]
     questions += [(WITH, node) for node in asking.further()]

@@ -1,4 +1,4 @@
-"""The front of a certificate: what it costs, its hubs and its routes. The proof behind them is left to `hub check`."""
+"""The first part of a certificate: what it costs, its hubs and its routes. The proof behind them is left to `hub check`."""
 
 from __future__ import annotations
 

@@ -24,7 +24,7 @@ def common_words() -> Parser:
     """The options that each kind has."""
     common = Parser(add_help=False)
     add = common.add_argument
-    add("--out", required=True, metavar="OUT", help="the front of the names of the files to write")
+    add("--out", required=True, metavar="OUT", help="the first part of the names of the files to write")
     layouts = "the layout; ap where the places are plane, else cab-matrix"
     add("--to", choices=["cab-matrix", "cab-rows", "ap"], help=layouts)
     add("--costs", type=Path, metavar="FILE", help="fixed costs, one number for each node of the files in order")

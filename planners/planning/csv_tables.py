@@ -57,7 +57,7 @@ def read_table(path: Path, needed: list[str], delimiter: str = ",") -> Iterator[
 
 
 def other_delimiter(header: list[str], missing: list[str]) -> str:
-    """What a user is told where the whole header lies in one cell, with something else between."""
+    """The message where the whole header lies in one cell, with something else between."""
     for delimiter, name in ((";", "';'"), ("\t", "a tab")):
         if missing and len(header) == 1 and missing[0] in header[0].split(delimiter):
             return f", with {name} between; say it by --delimiter"

@@ -75,7 +75,7 @@ class Network:
 
 
 def network_of(instance: Instance, plan: Plan) -> Network:
-    """The loads of a plan; a fault where they do not come to the plan's cost."""
+    """The loads of a plan; a fault where their sum is not the plan's cost."""
     size, hubs = instance.size(), set(plan.hubs)
     if len(plan.routes) != size or any(not hubs.issuperset(way) for row in plan.routes for way in row):
         raise Fault("the certificate is not one of this instance")

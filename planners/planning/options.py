@@ -35,7 +35,7 @@ TOLD = {
     "fixed": ("X", "the fixed cost of every node"),
     "costs": ("FILE", "a file with a fixed cost for each node"),
     "candidates": ("LIST", "which nodes may be hubs: numbers with commas between"),
-    "hubs": ("P", "just so many hubs, or 'file' for as many as an ap file lists"),
+    "hubs": ("P", "exactly this number of hubs, or 'file' for the number in an ap file"),
     "max-length": ("R", "no route is longer"),
     "gap": ("G", "stop the search once the bound is within so many per cent of the cost"),
     "nodes": ("N", "stop the search at so many nodes, with a bound"),
@@ -44,7 +44,7 @@ TOLD = {
 }
 """What the help of a script says of each option of hub that takes a value."""
 NOT_IN_EACH = {"hubs": "1", "max-length": "1", "format": "1", "gap": "1", "from": "/dev/null"}
-"""Options that not each command of each version of `hub` has, with a value by which it is asked."""
+"""Options that not each command of each version of `hub` has, with a value to try it with."""
 OF_SEARCH = ["gap", "nodes", "workers", "format"]
 """The names of the options of a search, which are none of the instance."""
 OF_LAYOUT = {"order": "cab-matrix", "tail": "ap"}
@@ -60,7 +60,7 @@ VALUED = ["order", "tail", "divide", *FACTORS, "fixed", "costs", "candidates", "
 
 @dataclass(frozen=True)
 class Options:
-    """An instance as `hub` is told of it: layout, file, and the options that were given, by name."""
+    """An instance as the words of `hub` name it: layout, file, and the options that were given, by name."""
 
     layout: str
     file: Path
@@ -134,7 +134,7 @@ def is_list_of_nodes(text: str) -> bool:
 
 
 def wanted(name: str) -> str:
-    """What a user is told to write as the number of this option."""
+    """What a user should write as the number of this option."""
     more = {"gap": " with at most 3 decimals", "hubs": f", or '{LISTED}'"}
     return QUANTITIES[name].wanted() + more.get(name, "")
 

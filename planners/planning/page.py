@@ -38,7 +38,7 @@ def map_places(places: "np.ndarray") -> tuple[list[list[float]], list[float]]:
 
 
 def hub_rows(network: Network) -> list[dict[str, str]]:
-    """What is told of each hub."""
+    """What the page says of each hub."""
     return [
         {
             "fixed": trimmed(cost_text(network.instance.fixed[hub] * FIXED_UNITS)),

@@ -45,7 +45,7 @@ def read_lines(path: Path, against: str, by: list[str]) -> tuple[dict[str, list[
             cost, bound, hubs = float(cells[0]), float(cells[1]), int(cells[2])
         except ValueError:
             raise row.fault("cost", "a number, as in 'bound' and 'number_of_hubs'") from None
-        # Whether both are equal is told by their texts, for a small gap is lost in these numbers.
+        # Whether both are equal is read off their texts, for a small gap is lost in these numbers.
         point = Point(float(row.cells[against]), cost, bound, hubs, cells[0] == cells[1])
         lines.setdefault(name, []).append(point)
     if not lines:

@@ -117,7 +117,7 @@ class Result:
 
     @property
     def parts(self) -> dict[str, Decimal]:
-        """The cost of collection, trunk, delivery and of the hubs, which come to `cost`."""
+        """The cost of collection, trunk, delivery and of the hubs, whose sum is `cost`."""
         return {part: exact_cost(cost) for part, cost in self.named.network.costs().items()}
 
     @property

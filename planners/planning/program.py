@@ -29,7 +29,7 @@ NOT_TAKEN = 2
 TOO_LONG = "no TooLong"
 """What `hub check` says of a text of more bytes than it takes."""
 TAKES_PLACE = "takes its place, which serves up to some 25 nodes"
-"""What is told of a command where `optimize` has not an option."""
+"""The message where `optimize` has not an option."""
 MOST_STATUS = 15
 """A greater status, or a signal, is none of hub's."""
 
@@ -75,8 +75,8 @@ def require(verb: str, names: Iterable[str] = ()) -> None:
 
 
 def serving(verb: str, names: Iterable[str]) -> tuple[str, str]:
-    """The command that solves with these options, and what a user is told of it: the one that was asked for, of which
-    nothing is told; or `solve` in the place of `optimize` where this `hub` has not one of them for that. A fault where
+    """The command that solves with these options, and a message for the user: the command that was chosen, without a
+    message; or `solve` in the place of `optimize` where this `hub` has not one of them for that. A fault where
     neither serves."""
     names = list(names)
     missing = [] if refuses(program(), verb) else lacking(verb, names)
@@ -92,13 +92,13 @@ def serving(verb: str, names: Iterable[str]) -> tuple[str, str]:
 
 
 def serving_again(verb: str) -> str:
-    """The command that solves from an older certificate what this one solves anew: `optimize` itself, where this `hub`
+    """The command that solves from an older certificate what this one solves from the start: `optimize` itself, where this `hub`
     has --from for it; else `resolve`."""
     return "resolve" if verb != "optimize" or lacking(verb, ["from"]) else verb
 
 
 def no_network(said: str, names: list[str] | None, longest: str) -> NoNetwork:
-    """What a user is told where no network keeps to the longest route, from the line of `hub`; places by their names,
+    """The message where no network keeps to the longest route, from the line of `hub`; places by their names,
     where they have any."""
     match = NO_ROUTE.fullmatch(said)
     if match is None or not longest:

@@ -35,7 +35,7 @@ def can_take_over(system: str, packages: tuple[str, ...]) -> bool:
 
 def want(*packages: str, without: str = "") -> None:
     """Sees to it, before any work is done, that these packages are there: by this Python, or else by the system's.
-    `without` is what a user is told who wants to do without the last one."""
+    `without` is the message for a user who wants to do without the last one."""
     missing = [package for package in packages if not has(package)]
     if not missing:
         return

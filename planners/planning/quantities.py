@@ -11,7 +11,7 @@ COST_PLACES = 12
 FLOW_PLACES = 6
 DISTANCE_PLACES = 3
 GAP_PLACES = 4
-"""Of a gap in per cent, as it is told."""
+"""Of a gap in per cent, as it is printed."""
 
 
 @dataclass(frozen=True)
@@ -24,7 +24,7 @@ class Quantity:
     most: int
 
     def wanted(self, which: str = "") -> str:
-        """What a user is told to write; `which` says which one it is."""
+        """What a user should write; `which` says which one it is."""
         return f"{self.name}{which and ' ' + which}, a number from {self.least} to {self.most}"
 
     def read(self, text: str) -> int | None:
@@ -60,7 +60,7 @@ def read_units(text: str, places: int) -> int | None:
 
 
 def decimal(units: int, places: int) -> str:
-    """A number of units of 10^-places with just so many decimals."""
+    """A number of units of 10^-places, with this number of decimals."""
     sign = "-" if units < 0 else ""
     whole, part = divmod(abs(units), 10**places)
     return f"{sign}{whole}.{part:0{places}}" if places else f"{sign}{whole}"

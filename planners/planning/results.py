@@ -41,9 +41,9 @@ class Result:
     open_hubs: str = ""
     tree_nodes: str = ""
     again_from: str = ""
-    """The row from whose certificate it was solved again; empty where it was solved anew."""
+    """The row from whose certificate it was solved again; empty where it was solved from the start."""
     anew_seconds: str = ""
-    """What this row took where it was solved anew, else the last one before it that was."""
+    """What this row took where it was solved from the start, else the last one before it that was."""
 
     def is_answer_to(self, key: str, limit: float | None) -> bool:
         """Whether the scenario of this key need not be run again under this time limit."""
@@ -52,7 +52,7 @@ class Result:
 
     @property
     def gain(self) -> str:
-        """How many times as long the last row before it took that was solved anew, where this one was solved again."""
+        """How many times as long the last row before it took that was solved from the start, where this one was solved again."""
         if not self.again_from or not float(self.seconds):
             return ""
         return f"{float(self.anew_seconds) / float(self.seconds):.2f}"
@@ -152,7 +152,7 @@ class Sweep:
             part.replace(self.file(scenario, "json"))
 
     def words(self, scenario: Scenario, older: Scenario | None) -> list[str]:
-        """The words that solve a scenario, anew or again from the certificate of an older one."""
+        """The words that solve a scenario, from the start or again from the certificate of an older one."""
         if older and scenario.again_by == "resolve":
             # A format is one of the certificate to be written; `resolve` has its own.
             return command(

@@ -32,14 +32,14 @@ class Scenario:
     options: Options
     """The instance."""
     command: str
-    """The command of `hub` that solves it anew: `optimize` or `solve`."""
+    """The command of `hub` that solves it from the start: `optimize` or `solve`."""
     search: dict[str, str]
     """The options of the search, by name."""
     again_by: str = ""
     """The command of `hub` that solves it from the certificate of a row before: `optimize` or `resolve`; empty where it
-    is always solved anew."""
+    is always solved from the start."""
     begin: Path | None = None
-    """A certificate with which its search begins. It is no part of what is asked, for the answer rests on nothing in
+    """A certificate with which its search begins. It is no part of the question, for the answer rests on nothing in
     it."""
 
     def goes_on_from(self, other: "Scenario") -> bool:

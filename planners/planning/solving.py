@@ -46,7 +46,7 @@ class Question:
     search: dict[str, str]
     """The options of the search."""
     older: Path | None = None
-    """A certificate with which the search begins. It is no part of what is asked, for the answer rests on nothing in
+    """A certificate with which the search begins. It is no part of the question, for the answer rests on nothing in
     it."""
 
     def options(self, folder: Path) -> Options:
@@ -96,7 +96,7 @@ def with_own_costs(source: Source, values: dict[str, str]) -> tuple[Source, dict
 
 
 def served(question: Question) -> tuple[Question, str]:
-    """The question by the command of this `hub` that has its options, and what a user is told where that is another
+    """The question by the command of this `hub` that has its options, and the message where that is another
     one than was asked for."""
     begin = ["from"] if question.older else []
     verb, note = serving(question.verb, [*question.values, *question.search, *begin])

@@ -52,7 +52,7 @@ def parser() -> Parser:
 
 
 def question_for(args: argparse.Namespace, source: Source) -> Question:
-    """What is asked of hub."""
+    """The question for hub."""
     values = values_of(args, OF_INSTANCE)
     if "fixed" in values:
         source = replace(source, fixed=None)
@@ -71,7 +71,7 @@ def question_for(args: argparse.Namespace, source: Source) -> Question:
 
 
 def study(args: argparse.Namespace, steps: Steps) -> tuple[list[str], Alternatives | None]:
-    """Does all that is not done; what is told at the end, and what came of further questions."""
+    """Does all that is not done; the report at the end, and the answers to further questions."""
     steps.begin("reading the tables")
     asked = question_for(args, read_tables(args.node_table, args.flow_table, args.delimiter))
     inputs = [args.node_table, args.flow_table]

@@ -32,7 +32,7 @@ NO_FROM = (
     f"this hub has no option --from for optimize; hub resolve {TAKES_PLACE}, where fixed costs or the number of hubs"
     " alone have changed"
 )
-"""What is told where rows are to be solved again by `optimize`."""
+"""The message where rows are to be solved again by `optimize`."""
 PAUSE = 0.1
 """Seconds between two looks at what is done."""
 TRIES = 3
@@ -78,7 +78,7 @@ def parser() -> Parser:
         " resolve, where it differs from the row before in fixed costs or the number of hubs alone; tells the gain"
     )
     words.add_argument("--again", action="store_true", help=again)
-    names = "a CSV table of the nodes in order with a column name, by which places are told"
+    names = "a CSV table of the nodes in order with a column name, for the names of places"
     words.add_argument("--names", type=Path, metavar="FILE", help=names)
     group = words.add_argument_group("options of the search", "as for hub, for rows that do not say otherwise")
     add_valued(group, OF_SEARCH)
@@ -164,7 +164,7 @@ class Parallel:
 def do_all(
     sweep: Sweep, begin: Callable[[list[Scenario]], Threads | Parallel], show: Callable[[int], None]
 ) -> None:
-    """Does all scenarios that are not done, by the engine that `begin` starts; `show` is told how many are done."""
+    """Does all scenarios that are not done, by the engine that `begin` starts; `show` gets how many are done."""
     left, total = [scenario for scenario in sweep.scenarios if not sweep.result(scenario)], len(sweep.scenarios)
     show(total - len(left))
     if not left:
@@ -203,7 +203,7 @@ def named_nodes(path: Path, instance: Path) -> list[str]:
 
 
 def served(scenarios: list[Scenario]) -> tuple[list[Scenario], dict[str, list[int]]]:
-    """The rows, each by the command of this `hub` that has its options; and what a user is told where that is another
+    """The rows, each by the command of this `hub` that has its options; and the message where that is another
     one than was asked for, with the numbers of these rows. A fault where there is none, before any row is run."""
     rows: list[Scenario] = []
     notes: dict[str, list[int]] = {}
@@ -257,7 +257,7 @@ def tell_gain(results: list[Result]) -> None:
         took = sum(float(result.seconds) for result in again)
         anew = sum(float(result.anew_seconds) for result in again)
         rows = f"{len(again)} row{'s were' if len(again) > 1 else ' was'} solved again in {took:.1f} s"
-        text = f"{rows}; as many like the last one before each that was solved anew take {anew:.1f} s"
+        text = f"{rows}; as many like the last one before each that was solved from the start take {anew:.1f} s"
         print(f"{called()}: {text}", file=sys.stderr)
 
 

@@ -1,4 +1,4 @@
-"""What a user is told of a network whose certificate is too long for `hub check`: it is found, and not proved."""
+"""The message for a network whose certificate is too long for `hub check`: it is found, and not proved."""
 
 from __future__ import annotations
 
@@ -13,7 +13,7 @@ from .program import short
 
 
 def best_found(options: Options, certificate: Path, names: list[str] | None, verb: str, search: Iterable[str]) -> str:
-    """The line for the user: hubs and cost, worked out anew from the front of the text, and what makes a shorter one.
+    """The line for the user: hubs and cost, computed again from the first part of the text, and what makes a shorter one.
     `search` has the names of the options of the search."""
     plan = read_plan(certificate)
     network_of(read_instance(options), plan)

@@ -38,7 +38,7 @@ def parser() -> Parser:
 
 
 def add_asking(words: argparse.ArgumentParser | argparse._ArgumentGroup) -> None:
-    """Puts on a command line what is asked for."""
+    """Writes the question as a command line."""
     places = f"so many further places (default: all up to {ALL_ASKED} nodes, else {MOST_ASKED}), the best by the bound"
     words.add_argument("--places", type=int, metavar="N", help=places)
     words.add_argument("--jobs", type=int, default=1, metavar="N", help="searches side by side (default: 1)")

@@ -110,7 +110,7 @@ class Kinds(InFolder):
 
 
 class Faults(InFolder):
-    """A wrong line is told with file, line and what was wanted; nothing is written."""
+    """A wrong line is reported with file, line and what was wanted; nothing is written."""
 
     def refused(self, texts: list[str], line: str, *words: str) -> None:
         """Files a, b, .. with these texts are refused with this line."""

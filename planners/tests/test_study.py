@@ -62,7 +62,7 @@ class Studies(InFolder):
             self.assertEqual((ended.returncode, ended.stderr), (0, ""))
             (self.folder / folder / "page.html").unlink()
         self.assertEqual(self.read("asked").split().count("optimize"), 3)  # each time asked for its words, once solved
-        # A certificate that was changed, or another question, is solved anew.
+        # A certificate that was changed, or another question, is solved from the start.
         self.write("out/certificate.txt", "HUBCERT 1\n")
         self.assertEqual(self.script("study", *words, hub=hub).returncode, 0)
         self.assertEqual(self.script("study", *words, "--collect=2", hub=hub).returncode, 0)

@@ -181,7 +181,7 @@ class Sweeps(InFolder):
         self.assertEqual(ended.stderr.splitlines()[0], line)
         self.assertRegex(ended.stderr.splitlines()[-1], r"^sweep: 3 rows were solved again in [0-9.]+ s; as many like")
         rows = self.table("out/results.csv")
-        # From the last row that was solved anew: what was solved again has all cuts of that, and more.
+        # From the last row that was solved from the start: what was solved again has all cuts of that, and more.
         self.assertEqual([row["again_from"] for row in rows], ["", "1", "1", "", "4"])
         self.assertEqual([bool(row["gain"]) for row in rows], [False, True, True, False, True])
         olds = {Path(line).name for line in self.read("olds").split()}
@@ -190,7 +190,7 @@ class Sweeps(InFolder):
         ended = self.script("sweep", *self.words("anew"))
         self.assertEqual([row["cost"] for row in rows], [row["cost"] for row in self.table("anew/results.csv")])
         self.assertNotIn("gain", self.table("anew/results.csv")[0])
-        # A row is solved anew where the certificate to go on from is gone.
+        # A row is solved from the start where the certificate to go on from is gone.
         (self.folder / "out/rows/5.json").unlink()
         ended = self.script("sweep", *self.words("out", "--again"), hub=hub)
         self.assertEqual(self.table("out/results.csv")[4]["again_from"], "")
@@ -229,13 +229,13 @@ class Sweeps(InFolder):
         self.assertEqual((ended.returncode, ended.stdout), (0, ""))
         self.assertRegex(ended.stderr.splitlines()[-1], r"^sweep: 5 rows were solved again in [0-9.]+ s; as many like")
         rows = self.table("out/results.csv")
-        # One with other candidates, or with all of them again, is solved anew.
+        # One with other candidates, or with all of them again, is solved from the start.
         self.assertEqual([row["again_from"] for row in rows], ["", "1", "2", "3", "4", "", "6", ""])
         self.assertEqual([bool(row["gain"]) for row in rows], [bool(row["again_from"]) for row in rows])
         begun = [Path(line).name for line in self.read("begun").split()]
         self.assertEqual(begun, ["1.cert", "2.cert", "3.cert", "4.cert", "6.cert"])
         self.assertEqual({path.suffix for path in (self.folder / "out/rows").iterdir()}, {".json"})
-        # The gain is told against the last row that was solved anew.
+        # The gain is measured against the last row that was solved from the start.
         known = [Result(**json.loads(self.read(f"out/rows/{number}.json"))) for number in range(1, 9)]
         anew = [0, 0, 0, 0, 0, 5, 5, 7]
         self.assertEqual([result.anew_seconds for result in known], [known[place].seconds for place in anew])

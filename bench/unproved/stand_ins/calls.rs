@@ -1,7 +1,7 @@
 //! The words that the unproved program knows: COMMAND LAYOUT FILE [options], with the layouts `cab-matrix` and `ap` and the
 //! instance options --collect, --trunk, --deliver, --fixed, --divide, --tail fixed, --hubs, --max-length and --candidates 1,2,..
 //!
-//! COMMAND is `solve` (with --rule 2 by rounds, with --cuts core by core cuts), `optimize`, `resolve` with --from OLD, or `check` with
+//! COMMAND is `solve` (with --rule 2 by rounds, with --cuts core by Pareto-optimal cuts), `optimize`, `resolve` with --from OLD, or `check` with
 //! --from CERTIFICATE, which says how it ends on standard error; --workers W, --format 1|2|3, and --nodes and --gap of `optimize`
 //! are as they are in the product. The text goes to standard output, and seconds to standard error.
 //!

@@ -60,7 +60,7 @@ function decimalsOf(texts) {
   return Math.min(few ? few[1] : 6, Math.max(...texts.map((text) => (text.split(".")[1] || "").length), 0));
 }
 
-// A number cut to just so many decimals, with commas.
+// A number cut to this number of decimals, with commas.
 function cut(text, decimals) {
   const [whole, part = ""] = text.split(".");
   return readable(whole) + (decimals ? "." + part.slice(0, decimals).padEnd(decimals, "0") : "");
@@ -452,7 +452,7 @@ function legend(someLeftOut, mostTrunk, trunks, spokes) {
   at("legend").replaceChildren(...entries);
 }
 
-// ---- what is told of a place
+// ---- what the page says of a place
 
 function heading(text, small) {
   return make("h2", {}, text, " ", make("small", {}, small));
