@@ -17,6 +17,7 @@ use hub_model::Instance;
 use pareto_cuts::Scratch;
 use std::alloc::{AllocError, Global};
 use std::marker::Model;
+use value_cuts::CandidateLegs;
 
 /// A workspace that makes the duals of an instance's stored cuts, one at a time. It is allocated once.
 ///
@@ -43,11 +44,12 @@ impl<'a> Model for DualLender<'a> {
 }
 
 impl<'a> DualLender<'a> {
-    /// A workspace for the instance.
-    pub fn new(alloc: Global, instance: &'a Instance) -> Result<DualLender<'a>, AllocError>
-        ensures { IfOk result (IsLenderFor instance.now) }
+    /// A workspace for the instance of the tables. Several workspaces can share them.
+    pub fn new(alloc: Global, tables: &'a CandidateLegs<'a>) -> Result<DualLender<'a>, AllocError>
+        ensures { IfOk result (IsLenderFor tables.now) }
     {
-        let values = ValueRoom::new(alloc, instance)?;
+        let instance = tables.instance();
+        let values = ValueRoom::new(alloc, tables)?;
         let sets = Scratch::new(alloc, instance)?;
         let (stated, held) = two_copies(alloc, instance.size() as usize)?;
         Ok(DualLender {
@@ -56,6 +58,13 @@ impl<'a> DualLender<'a> {
             stated,
             held,
         })
+    }
+
+    /// The tables.
+    pub fn tables(&self) -> &'a CandidateLegs<'a>
+        ensures { result.now ≡ self.now.values.problem }
+    {
+        self.values.tables()
     }
 
     /// Prepares the duals of the cut.

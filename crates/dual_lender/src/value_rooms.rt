@@ -9,7 +9,6 @@ ghost use Rattle.cut_pool.specs.Packed.{row_of, AreRowsFrom};
 ghost use Rattle.dual_lender.specs.Lenders.{HasPricesFrom};
 
 use cut_pool::PackedValues;
-use hub_model::Instance;
 use std::alloc::{AllocError, Global};
 use std::marker::Model;
 use value_cuts::{CandidateLegs, DualScratch, ListedRow, PriceScratch, price};
@@ -18,7 +17,7 @@ use value_cuts::{CandidateLegs, DualScratch, ListedRow, PriceScratch, price};
 /// a dual.
 #[derive(Drop)]
 pub(crate) struct ValueRoom<'a> {
-    tables: CandidateLegs<'a>,
+    tables: &'a CandidateLegs<'a>,
     rows: Vec<u32>,
     prices: Vec<u64>,
     scratch: PriceScratch,
@@ -33,23 +32,25 @@ impl<'a> Model for ValueRoom<'a> {
 
     ghost Value = { RoomState };
 
-    ghost view = { λ s. record { problem = s.tables; rows = s.rows.items; prices = s.prices.items; dual = s.made.dual } };
+    ghost view = { λ s. record { problem = s.tables.now; rows = s.rows.items; prices = s.prices.items; dual = s.made.dual } };
 
     ghost invariant = { IsValueRoom };
 }
 
 impl<'a> ValueRoom<'a> {
-    /// Room for the instance.
+    /// Room for the instance of the tables.
     #[tactic(auto, using(cut_pool::proofs::Packing::small_cells))]
-    pub(crate) fn new(alloc: Global, instance: &'a Instance) -> Result<ValueRoom<'a>, AllocError>
-        ensures { IfOk result (λ r. r.problem ≡ instance.now) }
+    pub(crate) fn new(
+        alloc: Global,
+        tables: &'a CandidateLegs<'a>,
+    ) -> Result<ValueRoom<'a>, AllocError>
+        ensures { IfOk result (λ r. r.problem ≡ tables.now) }
     {
-        let tables = CandidateLegs::new(alloc, instance)?;
-        let size = instance.size() as usize;
+        let size = tables.instance().size() as usize;
         let rows = vec![in alloc; 0; size * tables.places()]?;
         let prices = vec![in alloc; 0; size]?;
-        let scratch = PriceScratch::new(alloc, &tables)?;
-        let made = DualScratch::new(alloc, &tables)?;
+        let scratch = PriceScratch::new(alloc, tables)?;
+        let made = DualScratch::new(alloc, tables)?;
         Ok(ValueRoom {
             tables,
             rows,
@@ -68,7 +69,7 @@ impl<'a> ValueRoom<'a> {
     {
         values.unpack_origin(i, &mut self.rows);
         set_row_prices(
-            &self.tables,
+            self.tables,
             values,
             i,
             &self.rows,
@@ -93,7 +94,14 @@ impl<'a> ValueRoom<'a> {
             row: row_at(&self.rows, j, self.tables.places()),
         };
         self.made
-            .make(&self.tables, i, j, &row, price, values.offset());
+            .make(self.tables, i, j, &row, price, values.offset());
+    }
+
+    /// The tables.
+    pub(crate) fn tables(&self) -> &'a CandidateLegs<'a>
+        ensures { result.now ≡ self.now.problem }
+    {
+        self.tables
     }
 
     /// The price of the dual that was made last, and its nodes with their values, ascending, each value above 0.
