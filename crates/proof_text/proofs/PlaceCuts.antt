@@ -12,25 +12,25 @@ use Rattle.proof_text.specs.declared.places.CutLines.{CutLines}
 use Rattle.proof_text.proofs.FoundLines.{same_place}
 
 -- the cut of a place is there
-pub cut_there : (l : CutLines) (t : ℕ) → AreLines l → t < place_count l → t / l.instance.now.size < length l.cuts.now.cuts
-cut_there l t are below = div_below t l.instance.now.size (length l.cuts.now.cuts) are.some below
+pub cut_there : (l : CutLines) (t : ℕ) → AreLines l → t < place_count l → t / l.tables.now.size < length l.cuts.now.cuts
+cut_there l t are below = div_below t l.tables.now.size (length l.cuts.now.cuts) are.some below
 
 -- and it fits
-pub cut_fits : (l : CutLines) (t : ℕ) → AreLines l → t < place_count l → IsKeptFor l.instance.now (cut_of l t)
+pub cut_fits : (l : CutLines) (t : ℕ) → AreLines l → t < place_count l → IsKeptFor l.tables.now (cut_of l t)
 cut_fits l t are below =
-    let p = l.instance.now in
+    let p = l.tables.now in
     let cuts = l.cuts.now.cuts in
     let place = t / p.size in
     subst (IsKeptFor p) (sym (same_place cuts place)) (All-get_or (IsKeptFor p) cuts place (by_set [] []) (cut_there l t are below) are.fit)
 
 -- there are far fewer than 2^64 places
 pub few_places : (l : CutLines) → AreLines l → place_count l ≤ 13421772800
-few_places l are = mul-le (length l.cuts.now.cuts) l.instance.now.size most_cuts most_nodes are.few are.small
+few_places l are = mul-le (length l.cuts.now.cuts) l.tables.now.size most_cuts most_nodes are.few are.small
 
 -- the cuts of a finding are such
-pub cuts_found : (l : CutLines) (found : Found) → CanBeStated l.instance.now found → l.cuts.now ≡ found.cuts → AreLines l
+pub cuts_found : (l : CutLines) (found : Found) → CanBeStated l.tables.now found → l.cuts.now ≡ found.cuts → AreLines l
 cuts_found l found h same =
-    let p = l.instance.now in
+    let p = l.tables.now in
     let range = h.in_range in
     let cuts : l.cuts.now.cuts ≡ found.cuts.cuts = ap (λ (k : KeptList). k.cuts) same in
     let many : length l.cuts.now.cuts ≡ length found.cuts.cuts = ap length cuts in

@@ -23,4 +23,4 @@ IsTextAt s block text = text ≡ flat_map line_bytes (items_of s.lines.now (s.fi
 
 -- the lines of the stretch
 abbrev pub items_along : Stretch → List Item
-items_along s = stretch_items (version_number s.lines.now.version) s.lines.now.instance.now s.lines.now.cuts.now.cuts s.first s.count
+items_along s = stretch_items (version_number s.lines.now.version) s.lines.now.tables.now s.lines.now.cuts.now.cuts s.first s.count

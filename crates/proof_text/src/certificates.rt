@@ -14,6 +14,7 @@ use cut_pool::{Found, KeptCut, KeptCuts};
 use dual_lender::DualLender;
 use hub_model::{Dual, Instance, Plan, TreeLine};
 use std::alloc::{AllocError, Global};
+use value_cuts::CandidateLegs;
 
 /// The certificate of a finding in this version. The duals of each cut are computed again; those of an explicit cut
 /// (Pareto-optimal or imported) are copied. In the third version Pareto-optimal cuts are marked.
@@ -47,7 +48,8 @@ fn stated_cuts(
     requires { All (IsKeptFor instance.now) cuts.now.cuts }
     ensures { IfOk result (λ stated. stated.items ≡ kept_cuts instance.now cuts.now.cuts) }
 {
-    let mut lender = DualLender::new(alloc, instance)?;
+    let tables = CandidateLegs::new(alloc, instance)?;
+    let mut lender = DualLender::new(alloc, &tables)?;
     lent_cuts(alloc, instance, cuts, &mut lender)
 }
 

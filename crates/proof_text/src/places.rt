@@ -14,12 +14,12 @@ use cert_format::Version;
 use cut_pool::{KeptCut, KeptCuts};
 use dual_lender::DualLender;
 use hub_io::{Buffer, Failed, Sink};
-use hub_model::Instance;
+use value_cuts::CandidateLegs;
 
 /// The cuts of a finding for the instance, whose lines are put in this version.
 #[derive(Drop)]
 pub(crate) struct CutLines<'a> {
-    pub(crate) instance: &'a Instance,
+    pub(crate) tables: &'a CandidateLegs<'a>,
     pub(crate) cuts: &'a KeptCuts,
     pub(crate) version: Version,
 }
@@ -30,25 +30,25 @@ impl CutLines<'_> {
         requires { AreLines self.now }
         ensures { result ≡ place_count self.now }
     {
-        self.cuts.len() * self.instance.size() as u64
+        self.cuts.len() * self.tables.instance().size() as u64
     }
 
     /// The number of the place's cut, counted from 1.
     pub(crate) fn cut_number(&self, place: u64) -> u64
         requires lines { AreLines self.now }
         requires place { place < place_count self.now }
-        ensures { result ≡ place / self.now.instance.now.size + 1 }
+        ensures { result ≡ place / self.now.tables.now.size + 1 }
     {
-        place / self.instance.size() as u64 + 1
+        place / self.tables.instance().size() as u64 + 1
     }
 
     // The place's origin.
     fn origin(&self, place: u64) -> u32
         requires { AreLines self.now }
-        ensures value { result ≡ place % self.now.instance.now.size }
-        ensures node { result < self.now.instance.now.size }
+        ensures value { result ≡ place % self.now.tables.now.size }
+        ensures node { result < self.now.tables.now.size }
     {
-        (place % self.instance.size() as u64) as u32
+        (place % self.tables.instance().size() as u64) as u32
     }
 
     // The place's cut.
@@ -56,7 +56,7 @@ impl CutLines<'_> {
         requires lines { AreLines self.now }
         requires place { place < place_count self.now }
         ensures value { kept_of result.now ≡ cut_of self.now place }
-        ensures fits { IsKeptFor self.now.instance.now (kept_of result.now) }
+        ensures fits { IsKeptFor self.now.tables.now (kept_of result.now) }
     {
         self.cuts.cut(self.cut_number(place))
     }
@@ -65,10 +65,10 @@ impl CutLines<'_> {
     pub(crate) fn begin(&self, place: u64, lender: &mut DualLender)
         requires lines { AreLines self.now }
         requires place { place < place_count self.now }
-        requires lender { IsLenderFor self.now.instance.now lender.old }
-        ensures { IsReady self.now.instance.now (cut_of self.now place) lender.new }
+        requires lender { IsLenderFor self.now.tables.now lender.old }
+        ensures { IsReady self.now.tables.now (cut_of self.now place) lender.new }
     {
-        lender.begin(self.instance, self.kept(place));
+        lender.begin(self.tables.instance(), self.kept(place));
     }
 
     /// Puts the lines of the place. The workspace stays ready for its cut.
@@ -81,15 +81,15 @@ impl CutLines<'_> {
     ) -> Result<(), Failed>
         requires lines { AreLines self.now }
         requires place { place < place_count self.now }
-        requires ready { IsReady self.now.instance.now (cut_of self.now place) lender.old }
-        ensures ready { IsReady self.now.instance.now (cut_of self.now place) lender.new }
+        requires ready { IsReady self.now.tables.now (cut_of self.now place) lender.old }
+        ensures ready { IsReady self.now.tables.now (cut_of self.now place) lender.new }
         ensures lines { PutsLines K.taken K.faults sink.old sink.new buffer.old buffer.new result (items_of self.now place) }
     {
         let number = self.cut_number(place);
         let i = self.origin(place);
         let kept = self.kept(place);
         let cut = NumberedCut {
-            instance: self.instance,
+            instance: self.tables.instance(),
             version: self.version,
             number,
             kept,

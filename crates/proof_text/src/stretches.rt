@@ -41,7 +41,7 @@ impl<'a> Job<Vec<u8>> for Stretch<'a> {
 
     fn new_scratch(&self, alloc: Global) -> Result<PlaceScratch<'a>, AllocError> {
         Ok(PlaceScratch {
-            lender: DualLender::new(alloc, self.lines.instance)?,
+            lender: DualLender::new(alloc, self.lines.tables)?,
             cut: None,
         })
     }
@@ -65,7 +65,7 @@ impl PlaceScratch<'_> {
         requires place { place < place_count lines.now }
         requires lends { Lends lines.now self.old.cut self.old.lender }
         ensures lends { Lends lines.now self.new.cut self.new.lender }
-        ensures cut { self.new.cut ≡ Some (place / lines.now.instance.now.size + 1) }
+        ensures cut { self.new.cut ≡ Some (place / lines.now.tables.now.size + 1) }
     {
         let c = lines.cut_number(place);
         if self.cut != Some(c) {
@@ -84,8 +84,8 @@ fn place_text(
 ) -> Result<Vec<u8>, AllocError>
     requires lines { AreLines lines.now }
     requires place { place < place_count lines.now }
-    requires ready { IsReady lines.now.instance.now (cut_of lines.now place) lender.old }
-    ensures ready { IsReady lines.now.instance.now (cut_of lines.now place) lender.new }
+    requires ready { IsReady lines.now.tables.now (cut_of lines.now place) lender.old }
+    ensures ready { IsReady lines.now.tables.now (cut_of lines.now place) lender.new }
     ensures text { IfOk result (λ text. text.items ≡ flat_map line_bytes (items_of lines.now place)) }
 {
     let mut text = MemoryText::new(alloc);
@@ -104,8 +104,8 @@ fn write_place<K: Sink>(
 ) -> Result<(), Failed>
     requires lines { AreLines lines.now }
     requires place { place < place_count lines.now }
-    requires ready { IsReady lines.now.instance.now (cut_of lines.now place) lender.old }
-    ensures ready { IsReady lines.now.instance.now (cut_of lines.now place) lender.new }
+    requires ready { IsReady lines.now.tables.now (cut_of lines.now place) lender.old }
+    ensures ready { IsReady lines.now.tables.now (cut_of lines.now place) lender.new }
     ensures text { Puts K.taken K.faults sink.old sink.new result (flat_map line_bytes (items_of lines.now place)) }
 {
     let mut buffer = Buffer::new();

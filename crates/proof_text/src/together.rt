@@ -40,13 +40,13 @@ pub(crate) fn put_cuts_together<'a, R: Threads + Sync, K: Sink>(
 ) -> Result<(), Failed>
     requires lines { AreLines lines.now }
     requires workers { (1 ≤ workers.now.count) × (workers.now.count ≤ 64) }
-    requires lender { IsLenderFor lines.now.instance.now lender.old }
-    ensures lender { IsLenderFor lines.now.instance.now lender.new }
+    requires lender { IsLenderFor lines.now.tables.now lender.old }
+    ensures lender { IsLenderFor lines.now.tables.now lender.new }
     ensures lines { PutsLines K.taken K.faults sink.old sink.new buffer.old buffer.new result
-        (kept_items (version_number lines.now.version) lines.now.instance.now lines.now.cuts.now.cuts) }
+        (kept_items (version_number lines.now.version) lines.now.tables.now lines.now.cuts.now.cuts) }
 {
     let places = lines.places();
-    let most = stretch_length(lines.instance.size());
+    let most = stretch_length(lines.tables.instance().size());
     let mut first = 0;
     while first < places {
         let count = most.min(places - first) as u32;
@@ -80,8 +80,8 @@ fn put_stretch<R: Threads + Sync, K: Sink>(
 ) -> Result<(), Failed>
     requires stretch { IsStretch stretch.now }
     requires workers { (1 ≤ workers.now.count) × (workers.now.count ≤ 64) }
-    requires lender { IsLenderFor stretch.now.lines.now.instance.now lender.old }
-    ensures lender { IsLenderFor stretch.now.lines.now.instance.now lender.new }
+    requires lender { IsLenderFor stretch.now.lines.now.tables.now lender.old }
+    ensures lender { IsLenderFor stretch.now.lines.now.tables.now lender.new }
     ensures lines { PutsLines K.taken K.faults sink.old sink.new buffer.old buffer.new result (items_along stretch.now) }
 {
     let Workers { rt, alloc, count } = *workers;
@@ -109,8 +109,8 @@ fn put_places<K: Sink>(
     sink: &mut K,
 ) -> Result<(), Failed>
     requires stretch { IsStretch stretch.now }
-    requires lender { IsLenderFor stretch.now.lines.now.instance.now lender.old }
-    ensures lender { IsLenderFor stretch.now.lines.now.instance.now lender.new }
+    requires lender { IsLenderFor stretch.now.lines.now.tables.now lender.old }
+    ensures lender { IsLenderFor stretch.now.lines.now.tables.now lender.new }
     ensures lines { PutsLines K.taken K.faults sink.old sink.new buffer.old buffer.new result (items_along stretch.now) }
 {
     for block in 0..stretch.count {

@@ -71,7 +71,7 @@ fn put_found<R: Threads + Sync, K: Sink>(
 {
     put_found_top(finding, buffer, sink)?;
     let lines = CutLines {
-        instance: finding.instance,
+        tables: lender.tables(),
         cuts: &finding.found.cuts,
         version: finding.version,
     };
@@ -89,17 +89,17 @@ fn put_cuts<'a, R: Threads + Sync, K: Sink>(
 ) -> Result<(), Failed>
     requires lines { AreLines lines.now }
     requires workers { (1 ≤ workers.now.count) × (workers.now.count ≤ 64) }
-    requires lender { IsLenderFor lines.now.instance.now lender.old }
-    ensures lender { IsLenderFor lines.now.instance.now lender.new }
+    requires lender { IsLenderFor lines.now.tables.now lender.old }
+    ensures lender { IsLenderFor lines.now.tables.now lender.new }
     ensures lines { PutsLines K.taken K.faults sink.old sink.new buffer.old buffer.new result
-        (kept_items (version_number lines.now.version) lines.now.instance.now lines.now.cuts.now.cuts) }
+        (kept_items (version_number lines.now.version) lines.now.tables.now lines.now.cuts.now.cuts) }
 {
     if workers.count > 1 {
         return put_cuts_together(workers, lines, lender, buffer, sink);
     }
     put_kept_cuts(
         lines.version,
-        lines.instance,
+        lines.tables.instance(),
         lines.cuts,
         lender,
         buffer,

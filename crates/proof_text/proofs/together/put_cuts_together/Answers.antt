@@ -11,7 +11,7 @@ pub loop-first-init : goal.loop-first-init
 loop-first-init g c =
     let l = c.args.lines.now in
     let v = version_number l.version in
-    let p = l.instance.now in
+    let p = l.tables.now in
     let cuts = l.cuts.now.cuts in
     let all : place_count l - 0 ≡ place_count l = omega arith in
     record {
@@ -28,7 +28,7 @@ returns-in_err-put_stretch-clause-lines g c =
     let count = c.min-count.result in
     let few : count ≤ place_count l - first = omega (arith, c.min-count.ensures, c.places-places.ensures) in
     front_stop _ c.loop-first.invariant.put c.put_stretch.ensures.lines (ap is_err c.in_err-put_stretch.was) c.from_residual.ensures.0
-    (stretch_and_rest (version_number l.version) l.instance.now l.cuts.now.cuts first count (first + count) (place_count l - (first + count))
+    (stretch_and_rest (version_number l.version) l.tables.now l.cuts.now.cuts first count (first + count) (place_count l - (first + count))
     (place_count l - first) refl (omega (arith, few)))
 
 pub loop-first-preserved : goal.loop-first-preserved
@@ -42,9 +42,9 @@ loop-first-preserved g c =
     record {
       lender = c.put_stretch.ensures.lender;
       within = omega (arith, few, c.loop-first.invariant.within);
-      put = front_more (flat_map line_bytes (stretch_items v l.instance.now l.cuts.now.cuts (first + count) left))
+      put = front_more (flat_map line_bytes (stretch_items v l.tables.now l.cuts.now.cuts (first + count) left))
           c.loop-first.invariant.put c.put_stretch.ensures.lines (ap is_ok c.in_ok-put_stretch.was)
-          (stretch_and_rest v l.instance.now l.cuts.now.cuts first count (first + count) left (place_count l - first) refl (omega (arith, few)));
+          (stretch_and_rest v l.tables.now l.cuts.now.cuts first count (first + count) left (place_count l - first) refl (omega (arith, few)));
     }
 
 pub returns-clause-lines : goal.returns-clause-lines
@@ -52,4 +52,4 @@ returns-clause-lines g c =
     let l = c.args.lines.now in
     let none : 0 ≡ place_count l - c.loop-first.first = omega (arith, c.loop-first-test.false, c.places-places.ensures) in
     front_end c.loop-first.invariant.put
-    (ap (λ (k : ℕ). flat_map line_bytes (stretch_items (version_number l.version) l.instance.now l.cuts.now.cuts c.loop-first.first k)) none)
+    (ap (λ (k : ℕ). flat_map line_bytes (stretch_items (version_number l.version) l.tables.now l.cuts.now.cuts c.loop-first.first k)) none)

@@ -11,7 +11,7 @@ abbrev pub invariant-loop-first : goal.invariant-loop-first
 invariant-loop-first g l =
     let s = g.K.Sink in
     let v = version_number l.lines.version in
-    let p = l.lines.instance.now in
+    let p = l.lines.tables.now in
     let cuts = l.lines.cuts.now.cuts in
     record {
       lender : IsLenderFor p l.lender;

@@ -10,7 +10,7 @@ abbrev pub invariant-loop-block : goal.invariant-loop-block
 invariant-loop-block g l =
     let s = g.K.Sink in
     record {
-      lender : IsLenderFor l.stretch.lines.now.instance.now l.lender;
+      lender : IsLenderFor l.stretch.lines.now.tables.now l.lender;
       put : HasPut s.taken s.faults l.initial.sink l.sink l.initial.buffer l.buffer (λ t. flat_map line_bytes (items_of l.stretch.lines.now t))
           (range_with_len l.stretch.first l.stretch.count) l.block;
     }

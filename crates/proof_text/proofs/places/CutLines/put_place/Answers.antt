@@ -8,5 +8,5 @@ use Rattle.proof_text.proofs.places.CutLines.put_place.Goals as goal
 pub returns-clause-lines : goal.returns-clause-lines
 returns-clause-lines g c =
     let l = c.args.self.now in
-    as_text (λ t. flat_map line_bytes (origin_items (version_number l.version) l.instance.now (c.cut_number-number.ensures t) (c.kept-kept.ensures.value t) (c.origin-i.ensures.value t)))
+    as_text (λ t. flat_map line_bytes (origin_items (version_number l.version) (c.instance.ensures.value t) (c.cut_number-number.ensures t) (c.kept-kept.ensures.value t) (c.origin-i.ensures.value t)))
     c.put_cut_origin.ensures.lines
