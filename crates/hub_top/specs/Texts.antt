@@ -2,7 +2,6 @@
 use Rattle.std.specs.Prelude.{ℕ, ◌+◌, List, [], ◌∷◌, ◌++◌, codes, decimal}
 use Rattle.std.specs.List.{concat}
 use Rattle.std.specs.Fmt.{signed_decimal}
-use Rattle.cert_spec.specs.Verdicts.{serves}
 use Rattle.file_spec.specs.Faults.{Fault, bad_number, missing_token, missing_pair, extra, bad_size, negative, too_big, bad_index, repeated, no_candidate, too_costly, bad_hubs}
 use Rattle.hub_sources.specs.Sources.{Blame, on_instance, on_costs}
 use Rattle.file_spec.specs.Faults as faults

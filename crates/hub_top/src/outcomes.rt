@@ -1,10 +1,9 @@
 //! The outcome of a run, and its output.
 
-ghost use Rattle.std.specs.Prelude.{◌≡◌};
+ghost use Rattle.std.specs.Prelude.{◌≡◌, IfOk, IfErr};
 ghost use Rattle.hub_io.specs.Outside.{Puts};
 ghost use Rattle.cert_scan.specs.Versions.{version_number};
 ghost use Rattle.cut_pool.specs.Findings.{IsProved};
-ghost use Rattle.dual_lender.specs.Lenders.{IsLenderFor};
 ghost use Rattle.proof_text.specs.Texts.{found_text};
 ghost use Rattle.hub_words.specs.Requests.{IsSearch};
 ghost use Rattle.hub_words.specs.Views.{search_seen};
@@ -24,8 +23,9 @@ use hub_model::Instance;
 use hub_sources::Halt;
 use hub_words::Search;
 use proof_text::{Finding, Workers, write_found};
-use std::alloc::Global;
+use std::alloc::{AllocError, Global};
 use std::thread::Threads;
+use value_cuts::CandidateLegs;
 
 /// The outcome of a run before it is written.
 #[derive(Drop)]
@@ -57,12 +57,12 @@ pub fn write<R: Threads + Sync, O: Sink, E: Sink>(
 {
     match settled {
         Settled::Answered(answer) => write_answer(answer, out),
-        Settled::Found(instance, found, search) => match DualLender::new(alloc, instance) {
-            Ok(mut lender) => {
-                write_certificate(rt, alloc, instance, found, *search, &mut lender, out)
+        Settled::Found(instance, found, search) => {
+            match write_certificate(rt, alloc, instance, found, *search, out) {
+                Ok(status) => status,
+                Err(_) => write_halt(&Halt::Memory, err),
             }
-            Err(_) => write_halt(&Halt::Memory, err),
-        },
+        }
         Settled::NoNetwork { i, j } => write_no_network(*i, *j, err),
         Settled::Usage => write_usage(err),
         Settled::Halted(halt) => write_halt(halt, err),
@@ -79,22 +79,24 @@ fn write_answer<O: Sink>(answer: &Answer, out: &mut O) -> Status
     }
 }
 
-/// Writes the certificate of what a search found.
+/// Reserves the memory that makes the duals of what a search found, and writes the certificate. Where that memory runs
+/// out, it writes nothing.
 fn write_certificate<R: Threads + Sync, O: Sink>(
     rt: &R,
     alloc: Global,
     instance: &Instance,
     found: &Found,
     search: Search,
-    lender: &mut DualLender,
     out: &mut O,
-) -> Status
-    requires lender { IsLenderFor instance.now lender.old }
+) -> Result<Status, AllocError>
     requires proved { IsProved instance.now found.now }
     requires search { IsSearch (search_seen search) }
-    ensures { IsTold O.taken O.faults out.old out.new result (finding_status found.now)
-        (found_text (version_number search.version) instance.now found.now) }
+    ensures text { IfOk result (λ status. IsTold O.taken O.faults out.old out.new status (finding_status found.now)
+        (found_text (version_number search.version) instance.now found.now)) }
+    ensures nothing { IfErr result (λ lacking. out.new ≡ out.old) }
 {
+    let tables = CandidateLegs::new(alloc, instance)?;
+    let mut lender = DualLender::new(alloc, &tables)?;
     let workers = Workers {
         rt,
         alloc,
@@ -105,9 +107,9 @@ fn write_certificate<R: Threads + Sync, O: Sink>(
         found,
         version: search.version,
     };
-    match write_found(&workers, &finding, lender, out) {
-        Ok(()) => status_of_finding(found),
-        Err(_) => Status::Write,
+    match write_found(&workers, &finding, &mut lender, out) {
+        Ok(()) => Ok(status_of_finding(found)),
+        Err(_) => Ok(Status::Write),
     }
 }
 

@@ -12,6 +12,7 @@ use proof_text::{Finding, Workers, certificate_of, write_found};
 use std::alloc::{AllocError, Global};
 use std::thread::Threads;
 use test_lines::list;
+use value_cuts::CandidateLegs;
 
 // More bytes than any case puts.
 const ROOM: usize = 10_000;
@@ -94,7 +95,8 @@ fn put_found<R: Threads + Sync>(
     requires proved { IsProved finding.now.instance.now finding.now.found.now }
     requires workers { (1 ≤ workers.now.count) × (workers.now.count ≤ 64) }
 {
-    let mut lender = DualLender::new(workers.alloc, finding.instance)?;
+    let tables = CandidateLegs::new(workers.alloc, finding.instance)?;
+    let mut lender = DualLender::new(workers.alloc, &tables)?;
     Ok(write_found(workers, finding, &mut lender, sink))
 }
 

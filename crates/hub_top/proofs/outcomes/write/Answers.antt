@@ -1,5 +1,6 @@
-use Rattle.std.proofs.Common.{ℕ, inl, inr, refl}
-use Rattle.hub_top.specs.Outcomes.{answered, usage, no_network, memory}
+use Rattle.std.proofs.Common.{◌≡◌, ℕ, inl, inr, refl}
+use Rattle.std.proofs.lemmas.Result.{IfOk-at_ok, IfErr-at_err}
+use Rattle.hub_top.specs.Outcomes.{IsTold, answered, usage, no_network, memory}
 use Rattle.hub_top.specs.Views.{answer_status, answer_text, halted}
 use Rattle.hub_commands.specs.Statuses.{finding_status}
 use Rattle.cert_scan.specs.Versions.{version_number}
@@ -17,10 +18,13 @@ returns-in-Ok g c =
     let p = c.in-Found.instance in
     let found = c.in-Found.found in
     let text = found_text (version_number c.in-Found.search.version) p found in
-    rw c.in-Found.is (inl (written_out _ _ _ _ _ _ _ _ (answered (finding_status found) text) refl c.write_certificate.ensures))
+    rw c.in-Found.is (inl (written_out _ _ _ _ _ _ _ _ (answered (finding_status found) text) refl
+    (IfOk-at_ok (λ status. IsTold g.O.Sink.taken g.O.Sink.faults c.args.out.now c.write_certificate.new.out status (finding_status found) text) c.in-Ok.is c.write_certificate.ensures.text)))
 
 pub returns-in-Err : goal.returns-in-Err
-returns-in-Err g c = inr (written_err _ _ _ _ _ _ _ _ memory refl c.write_halt.ensures)
+returns-in-Err g c =
+    rw (IfErr-at_err (λ _. c.write_certificate.new.out ≡ c.args.out.now) c.in-Err.is c.write_certificate.ensures.nothing)
+    (inr (written_err _ _ _ _ _ _ _ _ memory refl c.write_halt.ensures))
 
 pub returns-in-NoNetwork : goal.returns-in-NoNetwork
 returns-in-NoNetwork g c =
