@@ -14,6 +14,7 @@ use value_cuts::{CandidateLegs, PriceScratch, Values, set_prices, set_prices_by_
 const SHARED: u32 = 64;
 
 // Values of all commodities by a rule, some of them 0 and some above the legs.
+#[tactic(auto, using(hub_model::proofs::CandidateNodes::few_places))]
 fn some_values(alloc: Global, instance: &Instance) -> Result<Vec<u32>, AllocError> {
     let size = instance.size() as usize;
     let mut items = vec![in alloc; 0; size * size * instance.candidates().len()]?;

@@ -40,6 +40,7 @@ pub fn asked(alloc: Global, instance: &Instance, line: &str) -> Result<String, A
 }
 
 /// The row for each commodity.
+#[tactic(auto, using(hub_model::proofs::CandidateNodes::few_places))]
 fn repeated(alloc: Global, instance: &Instance, row: &[u32]) -> Result<Vec<u32>, AllocError>
     requires { 1 ≤ length row.now }
 {
