@@ -4,7 +4,7 @@ use Rattle.ascent_search.specs.Benches.{BenchState, IsPricingFor}
 use Rattle.ascent_search.specs.declared.bench.Bench.TheInside.{Inside}
 
 abbrev pub state_of : Inside → BenchState
-state_of s = record { problem = s.tables; values = s.pricing.values; loads = s.pricing.loads.items }
+state_of s = record { problem = s.tables; loads = s.pricing.loads.items }
 
 -- all parts are of one instance
 pub record AreParts (s : Inside) : Type 0 where

@@ -40,8 +40,9 @@ impl<R: Threads + Sync, A: Advice + Drop> Walker<'_, R, A> {
         if may_branch && !is_whole {
             return Ok(false);
         }
-        let values = self.guide.advice.values();
-        self.walk.end_by_values(self.rt, values, branch)
+        let advice = &self.guide.advice;
+        self.walk
+            .end_by_values(self.rt, advice.unit(), advice.values(), branch)
     }
 
     // Makes ascent passes at the branch while they are worth their time.

@@ -5,19 +5,17 @@ ghost use Rattle.hub_spec.specs.Problem.{Problem};
 ghost use Rattle.hub_spec.specs.Plans.{IsHubSet};
 ghost use Rattle.hub_spec.specs.Separation.{IsOrder, set_cut};
 ghost use Rattle.cut_model.specs.ValueRows.{AreValuesFor, value_cut};
-ghost use Rattle.cut_pool.specs.Kept.{kept_of, by_values};
 ghost use Rattle.ascent_search.specs.SingleCuts.{AreLoads};
 
 use crate::pricing::Pricing;
-use cut_pool::{KeptCut, PackedValues};
 use hub_model::{HubSet, Instance};
 use pareto_cuts::Scratch;
 use std::alloc::{AllocError, Global};
 use std::marker::Model;
 use std::thread::Threads;
-use value_cuts::CandidateLegs;
+use value_cuts::{CandidateLegs, Values};
 
-/// The instance's tables, the last values, the loads of the last cut, and buffers.
+/// The instance's tables, the loads of the last cut, and buffers.
 #[derive(Drop)]
 pub(crate) struct Bench<'a> {
     tables: CandidateLegs<'a>,
@@ -37,16 +35,12 @@ impl<'a> Model for Bench<'a> {
 }
 
 impl<'a> Bench<'a> {
-    /// A workspace for the instance and for values in this unit, in 10^-6 per unit of flow.
-    pub(crate) fn new(
-        alloc: Global,
-        instance: &'a Instance,
-        unit: u64,
-    ) -> Result<Bench<'a>, AllocError>
+    /// A workspace for the instance.
+    pub(crate) fn new(alloc: Global, instance: &'a Instance) -> Result<Bench<'a>, AllocError>
         ensures { IfOk result (λ b. b.problem ≡ instance.now) }
     {
         let tables = CandidateLegs::new(alloc, instance)?;
-        let pricing = Pricing::new(alloc, &tables, unit)?;
+        let pricing = Pricing::new(alloc, &tables)?;
         let sets = Scratch::new(alloc, instance)?;
         Ok(Bench {
             tables,
@@ -55,33 +49,25 @@ impl<'a> Bench<'a> {
         })
     }
 
-    /// Takes the values, computes the exact prices of their cut by 1 to 64 workers, and returns its total. One of the
-    /// nodes `some_open` is open, unless there are none. With one worker it takes no memory.
+    /// Computes the exact prices of the values by 1 to 64 workers, sets their offset, and returns the total of their cut.
+    /// One of the nodes `some_open` is open, unless there are none. With one worker it takes no memory.
     pub(crate) fn value_sums<R: Threads + Sync>(
         &mut self,
         rt: &R,
         alloc: Global,
         workers: u32,
-        values: &[u32],
+        values: &mut Values,
         some_open: &[u32],
     ) -> Result<u128, AllocError>
         requires workers { (1 ≤ workers) × (workers ≤ 64) }
+        requires values { AreValuesFor self.old.problem values.old }
         ensures problem { self.new.problem ≡ self.old.problem }
-        ensures fit { AreValuesFor self.new.problem self.new.values }
-        ensures sums { let b = self.new in IfOk result (λ total. AreLoads b.problem (value_cut b.problem b.values) total b.loads) }
+        ensures fit { AreValuesFor self.new.problem values.new }
+        ensures sums { let b = self.new in IfOk result (λ total. AreLoads b.problem (value_cut b.problem values.new) total b.loads) }
     {
-        self.pricing.take(values);
-        self.pricing.price(rt, alloc, &self.tables, workers)?;
-        Ok(self.pricing.sum(&self.tables, some_open))
-    }
-
-    /// The stored form of the Benders cut from the last dual values, from which it can be computed again.
-    pub(crate) fn kept_values(&self, alloc: Global) -> Result<KeptCut, AllocError>
-        ensures { IfOk result (λ cut. kept_of cut ≡ by_values self.now.values) }
-    {
-        let instance = self.tables.instance();
-        let values = PackedValues::pack(alloc, instance, &self.pricing.values)?;
-        Ok(KeptCut::Values(values))
+        self.pricing
+            .price(rt, alloc, &self.tables, values, workers)?;
+        Ok(self.pricing.sum(&self.tables, values, some_open))
     }
 
     /// The total of the cut of the hub set over the order. It takes no memory.

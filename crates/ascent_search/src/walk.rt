@@ -17,18 +17,17 @@ pub(crate) struct Walk<'a> {
 }
 
 impl<'a> Walk<'a> {
-    /// A walk that goes on from this state, for values in this unit, in 10^-6 per unit of flow.
+    /// A walk that goes on from this state.
     pub(crate) fn new(
         alloc: Global,
         task: &'a SearchTask<'a>,
-        unit: u64,
         progress: TreeProgress,
     ) -> Result<Walk<'a>, AllocError>
         ensures task { IfOk result (λ w. w.task.now ≡ task.now) }
         ensures bench { IfOk result (λ w. w.bench.problem ≡ task.now.instance.now) }
         ensures progress { IfOk result (λ w. w.progress ≡ progress) }
     {
-        let bench = Bench::new(alloc, task.instance, unit)?;
+        let bench = Bench::new(alloc, task.instance)?;
         Ok(Walk {
             alloc,
             task,

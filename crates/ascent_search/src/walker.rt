@@ -30,7 +30,7 @@ impl<'a, R, A: Advice + Drop> Walker<'a, R, A> {
         ensures bench { IfOk result (λ w. w.walk.bench.problem ≡ task.now.instance.now) }
         ensures progress { IfOk result (λ w. w.walk.progress ≡ progress) }
     {
-        let walk = Walk::new(alloc, task, advice.unit(), progress)?;
+        let walk = Walk::new(alloc, task, progress)?;
         let guide = Guide::new(alloc, task.instance.candidates().len(), advice)?;
         Ok(Walker { rt, guide, walk })
     }

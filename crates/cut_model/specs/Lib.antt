@@ -4,5 +4,4 @@ pub mod Runs
 pub mod CutParts
 pub mod MarkedCuts
 pub mod ValueRows
-pub mod HeldRows
-pub mod Lending
+pub mod LentRows

@@ -1,8 +1,7 @@
 //! Prices of all commodities, by workers.
 
-ghost use Rattle.std.specs.Prelude.{◌≡◌, ◌*◌, ◌≤◌, length, IfOk};
+ghost use Rattle.std.specs.Prelude.{◌≤◌};
 ghost use Rattle.cut_model.specs.ValueRows.{AreValuesFor};
-ghost use Rattle.cut_model.specs.HeldRows.{IsSameShape};
 
 use hub_make::made_instance;
 use hub_model::Instance;
@@ -15,21 +14,14 @@ use value_cuts::{CandidateLegs, PriceScratch, Values, set_prices, set_prices_by_
 const SHARED: u32 = 64;
 
 // Values of all commodities by a rule, some of them 0 and some above the legs.
-fn some_values(alloc: Global, instance: &Instance) -> Result<Values, AllocError>
-    ensures { IfOk result (AreValuesFor instance.now) }
-{
-    let mut values = Values::new(alloc, instance, 1000)?;
-    fill(&mut values);
-    Ok(values)
-}
-
-fn fill(values: &mut Values)
-    ensures { IsSameShape values.old values.new }
-{
-    let rows = values.rows_mut();
-    for at in 0..rows.len() {
-        rows[at] = (at % 9973 * 7) as u32;
+#[tactic(auto, using(hub_model::proofs::CandidateNodes::few_places))]
+fn some_values(alloc: Global, instance: &Instance) -> Result<Vec<u32>, AllocError> {
+    let size = instance.size() as usize;
+    let mut items = vec![in alloc; 0; size * size * instance.candidates().len()]?;
+    for at in 0..items.len() {
+        items[at] = (at % 9973 * 7) as u32;
     }
+    Ok(items)
 }
 
 fn prices_alone(
@@ -74,7 +66,8 @@ fn prices_by<R: Threads + Sync>(
 #[test]
 fn one_worker_and_more_find_the_same_prices(rt: HostRuntime) -> Result<(), Fail> {
     let instance = made_instance(rt.alloc(), 1, SHARED)?;
-    let values = some_values(rt.alloc(), &instance)?;
+    let items = some_values(rt.alloc(), &instance)?;
+    let values = Values::over(&instance, 1000, &items).ok_or(AllocError)?;
     let tables = CandidateLegs::new(rt.alloc(), &instance)?;
     let alone = prices_alone(rt.alloc(), &tables, &values)?;
     for workers in [1, 2, 64] {

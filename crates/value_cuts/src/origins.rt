@@ -12,7 +12,7 @@ use std::alloc::{AllocError, Global};
 #[derive(Drop)]
 pub(crate) struct PricesByOrigin<'a> {
     pub(crate) tables: &'a CandidateLegs<'a>,
-    pub(crate) values: &'a Values,
+    pub(crate) values: &'a Values<'a>,
 }
 
 impl<'a> Job<Vec<u64>> for PricesByOrigin<'a> {

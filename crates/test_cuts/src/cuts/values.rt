@@ -1,8 +1,7 @@
 //! Cuts of any dual values (`value_cuts`).
 
-ghost use Rattle.std.specs.Prelude.{◌≡◌, ◌<◌, ◌≤◌, length, IfOk};
+ghost use Rattle.std.specs.Prelude.{◌≡◌, ◌<◌, ◌≤◌, length};
 ghost use Rattle.cut_model.specs.ValueRows.{AreValuesFor, allowed_price, node_value};
-ghost use Rattle.cut_model.specs.HeldRows.{IsSameShape};
 
 use super::texts::{dual_told, sums_told};
 use hub_model::Instance;
@@ -29,27 +28,28 @@ pub fn asked(alloc: Global, instance: &Instance, line: &str) -> Result<String, A
     if line.starts_with("value_dual") {
         return of_commodity(alloc, instance, i, j, &row, offset);
     }
-    let values = with_row(alloc, instance, &row, offset)?;
+    let items = repeated(alloc, instance, row.row)?;
+    let Some(mut values) = Values::over(instance, row.unit, &items) else {
+        return String::from_str(alloc, "no row");
+    };
+    values.set_offset(offset);
     if line.starts_with("value_prices") {
         return prices(alloc, instance, &values);
     }
-    copied(alloc, instance, &values)
+    sums(alloc, instance, &values)
 }
 
-/// Values that have this row for each commodity, and this offset of the first one.
-fn with_row(
-    alloc: Global,
-    instance: &Instance,
-    row: &ListedRow,
-    offset: u128,
-) -> Result<Values, AllocError>
-    requires { 1 ≤ length row.now.row.now }
-    ensures { IfOk result (AreValuesFor instance.now) }
+/// The row for each commodity.
+#[tactic(auto, using(hub_model::proofs::CandidateNodes::few_places))]
+fn repeated(alloc: Global, instance: &Instance, row: &[u32]) -> Result<Vec<u32>, AllocError>
+    requires { 1 ≤ length row.now }
 {
-    let mut values = Values::new(alloc, instance, row.unit)?;
-    fill_all(&mut values, row.row);
-    values.set_offset(offset);
-    Ok(values)
+    let size = instance.size() as usize;
+    let mut items = vec![in alloc; 0; size * size * instance.candidates().len()]?;
+    for at in 0..items.len() {
+        items[at] = row[at % row.len()];
+    }
+    Ok(items)
 }
 
 /// The prices of all commodities by unit of flow.
@@ -68,25 +68,6 @@ fn prices_by(alloc: Global, tables: &CandidateLegs, values: &Values) -> Result<S
     let mut prices = vec![in alloc; 7; size * size]?;
     set_prices(tables, values, &mut scratch, &mut prices);
     format!(in alloc; "{prices:?}")
-}
-
-/// The sums of the cut of a copy of the values.
-fn copied(alloc: Global, instance: &Instance, values: &Values) -> Result<String, AllocError>
-    requires { AreValuesFor instance.now values.now }
-{
-    let copy = values.copy(alloc)?;
-    sums(alloc, instance, &copy)
-}
-
-/// Sets the rows of all commodities.
-fn fill_all(values: &mut Values, row: &[u32])
-    requires { 1 ≤ length row.now }
-    ensures { IsSameShape values.old values.new }
-{
-    let rows = values.rows_mut();
-    for at in 0..rows.len() {
-        rows[at] = row[at % row.len()];
-    }
 }
 
 /// The total and the loads of the Benders cut from the dual values.
