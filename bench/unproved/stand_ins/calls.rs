@@ -23,6 +23,7 @@ use crate::rattle_std::Vec;
 use crate::rattle_std::alloc::Global;
 use crate::rattle_std::thread::Host;
 use crate::search_steps::{Coring, Plain, Solo};
+use crate::value_cuts::CandidateLegs;
 use crate::warm_start::start_of;
 use crate::{instance_ap::read_ap, instance_cab::read_matrix};
 use std::io::{Stdout, Write, stdout};
@@ -178,7 +179,8 @@ pub fn main() {
     }
     let found = words.found(&instance);
     let searched = Instant::now();
-    let mut lender = DualLender::new(Global, &instance).unwrap();
+    let tables = CandidateLegs::new(Global, &instance).unwrap();
+    let mut lender = DualLender::new(Global, &tables).unwrap();
     let workers = Workers { rt: &Host, alloc: Global, count: words.workers() };
     let finding = Finding { instance: &instance, found: &found, version: words.version() };
     let mut out = Out(stdout());

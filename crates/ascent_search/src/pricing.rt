@@ -10,7 +10,7 @@ use std::alloc::{AllocError, Global};
 use std::thread::Threads;
 use value_cuts::{CandidateLegs, PriceScratch, Values, set_prices_by_workers, sums_of};
 
-/// Room for prices and loads of the cut of values.
+/// Room for prices and loads of a Benders cut from dual values.
 #[derive(Drop)]
 pub(crate) struct Pricing {
     pub(crate) prices: Vec<u64>,

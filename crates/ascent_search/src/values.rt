@@ -76,7 +76,7 @@ impl Walk<'_> {
         Ok(true)
     }
 
-    // Stores the cut of the values, and ends the branch: with the leaf on that cut, if it fathoms at the cutoff, else with
+    // Stores the Benders cut from the values, and ends the branch: with the leaf on that cut, if it fathoms at the cutoff, else with
     // a stop.
     fn end_by_sums(
         &mut self,
@@ -105,7 +105,7 @@ impl Walk<'_> {
         }
     }
 
-    // Stores the cut of the values, from which it can be computed again, and returns its number.
+    // Stores the Benders cut from the values, from which it can be computed again, and returns its number.
     fn keep_values(&mut self, values: &Values, total: u128) -> Result<u64, AllocError>
         requires going { IsGoing self.old.task.now self.old.progress }
         requires fit { AreValuesFor self.old.task.now.instance.now values.now }
