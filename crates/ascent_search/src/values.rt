@@ -76,8 +76,8 @@ impl Walk<'_> {
         Ok(true)
     }
 
-    // Stores the Benders cut from the values, and ends the branch: with the leaf on that cut, if it fathoms at the cutoff, else with
-    // a stop.
+    // Stores the Benders cut from the values, and ends the branch: with the leaf on that cut, if it fathoms at the
+    // cutoff, else with a stop.
     fn end_by_sums(
         &mut self,
         values: &Values,
