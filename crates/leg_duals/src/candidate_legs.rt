@@ -1,9 +1,8 @@
 //! The legs to, between and from the candidates of an instance.
 
-ghost use Rattle.std.specs.Prelude.{◌≡◌, ℕ, ◌+◌, ◌*◌, ◌<◌, ◌≤◌, length, slice_index, IfOk};
+ghost use Rattle.std.specs.Prelude.{◌≡◌, ◌*◌, ◌<◌, ◌≤◌, length, IfOk};
 ghost use Rattle.hub_spec.specs.Limits.{most_nodes};
 ghost use Rattle.hub_spec.specs.Problem.{IsProblem, greatest};
-ghost use Rattle.unit_duals.specs.Cells.{cell};
 ghost use Rattle.unit_duals.specs.Limits.{most_length};
 ghost use Rattle.unit_duals.specs.Lengths.{IsLegRow};
 ghost use Rattle.hub_model.specs.CandidateLengths.{length_ceiling};
@@ -15,6 +14,7 @@ use crate::candidate_filling::{
 use hub_model::Instance;
 use std::alloc::{AllocError, Global};
 use std::marker::Model;
+use unit_duals::row;
 
 /// The legs of an instance's routes through its candidates, per unit of flow, and a ceiling of all lengths. They are
 /// seen as the instance.
@@ -143,14 +143,4 @@ impl<'a> CandidateLegs<'a> {
     {
         row(&self.deliver, j as usize, self.places)
     }
-}
-
-/// Row `t` of a table with `n` columns.
-fn row(table: &[u64], t: usize, n: usize) -> &[u64]
-    requires { t * n + n ≤ length table.now }
-    ensures long { length result.now ≡ n }
-    ensures each { (j : ℕ) → j < n → slice_index result.now j ≡ cell n table.now t j }
-{
-    let start = t * n;
-    &table[start..start + n]
 }

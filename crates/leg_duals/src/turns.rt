@@ -6,12 +6,13 @@
 ghost use Rattle.std.specs.Prelude.{◌≡◌, ℕ, ◌+◌, ◌-◌, ◌*◌, ◌<◌, ◌≤◌, length, slice_index, All};
 ghost use Rattle.unit_duals.specs.Cells.{cell};
 ghost use Rattle.unit_duals.specs.Raised.{IsRowSet};
-ghost use Rattle.leg_duals.specs.Ways.{IsWay, IsWayBeside, stop_count, no_way};
-ghost use Rattle.leg_duals.specs.Lowered.{AnyOf, IsLowered, AreLowered, AreReached, IsSpared};
+ghost use Rattle.leg_duals.specs.Ways.{IsWay, IsWayBeside, no_way};
+ghost use Rattle.leg_duals.specs.Lowered.{IsLowered, AreLowered, AreReached, IsSpared};
 ghost use Rattle.leg_duals.specs.Duals.{IsPlaceWay, ArePrices, AreValues};
 
 use crate::Ways;
 use crate::reaches::Reaches;
+use unit_duals::row;
 
 /// Gives each place, in its turn, its values. `least` is where the least lengths by a place are worked out.
 pub(crate) fn set_values(
@@ -150,15 +151,4 @@ fn set_row(prices: &[u64], least: &[u64], values: &mut [u64], t: usize)
     for j in 0..size {
         values[t * size + j] = prices[j] - least[j];
     }
-}
-
-/// Row `t` of a table with `n` columns.
-fn row(table: &[u64], t: usize, n: usize) -> &[u64]
-    requires { t * n + n ≤ length table.now }
-    ensures long { length result.now ≡ n }
-    ensures each { (j : ℕ) → j < n → slice_index result.now j ≡ cell n table.now t j }
-    ensures limit { (most : ℕ) → All (λ d. d ≤ most) table.now → All (λ d. d ≤ most) result.now }
-{
-    let start = t * n;
-    &table[start..start + n]
 }

@@ -7,6 +7,7 @@ ghost use Rattle.unit_duals.specs.Cells.{cell};
 ghost use Rattle.pareto_cuts.specs.AddedRows.{weighted_sum, row_sum, AreRowsAdded};
 
 use hub_model::Instance;
+use unit_duals::row;
 
 /// The flows from `i` to `size` destinations from `start` on, in 10^-6.
 #[tactic(auto, unfolding(hub_spec::specs::Problem::flow))]
@@ -73,14 +74,4 @@ pub(crate) fn set_column(
     for t in 0..order.len() {
         by_node[order[t] as usize] = flow as u128 * values[t * size + j] as u128;
     }
-}
-
-/// Row `t` of a table with `size` columns.
-fn row(table: &[u64], t: usize, size: usize) -> &[u64]
-    requires { t * size + size ≤ length table.now }
-    ensures long { length result.now ≡ size }
-    ensures each { (j : ℕ) → j < size → slice_index result.now j ≡ cell size table.now t j }
-{
-    let start = t * size;
-    &table[start..start + size]
 }

@@ -124,7 +124,7 @@ impl<'a> Legs<'a> {
 }
 
 /// Row `t` of a table with `n` columns.
-pub(crate) fn row(table: &[u64], t: usize, n: usize) -> &[u64]
+pub fn row(table: &[u64], t: usize, n: usize) -> &[u64]
     requires { t * n + n ≤ length table.now }
     ensures long { length result.now ≡ n }
     ensures each { (j : ℕ) → j < n → slice_index result.now j ≡ cell n table.now t j }

@@ -30,5 +30,5 @@ mod turns;
 
 pub use duals::UnitDuals;
 pub use hops::{Hops, HubRoute};
-pub use legs::Legs;
+pub use legs::{Legs, row};
 pub use tables::Tables;
