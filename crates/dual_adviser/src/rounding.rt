@@ -1,4 +1,4 @@
-//! Rounding: the hub set that penalties give, to improve, and to make duals tight at.
+//! Rounding: the hub set that penalties give, to improve, and to make duals tight at; and the fits of a node.
 
 ghost use Rattle.dual_ascent.specs.Shapes.{KeepsShape};
 
