@@ -10,8 +10,8 @@ use crate::memory::Memory;
 use crate::node::Node;
 use crate::progress::NodeProgress;
 use crate::sets::Sets;
-use ascent_lengths::{Lengths, PassWorkers, PlaceValues, copy};
-use dual_ascent::{PassSpace, State, Turned};
+use ascent_lengths::{Lengths, PassWorkers, copy};
+use dual_ascent::{PassSpace, State};
 use hub_model::Instance;
 use hub_moves::LocalSearch;
 use search_advice::{Advice, Side};
@@ -37,7 +37,6 @@ pub struct Adviser {
     pub(crate) bench: PassSpace,
     pub(crate) search: LocalSearch,
     pub(crate) fitting: Fitting,
-    pub(crate) found: PlaceValues,
     pub(crate) listed: Vec<usize>,
     memories: Vec<Memory>,
     aside: usize,
@@ -71,7 +70,6 @@ impl Adviser {
             bench: PassSpace::new(alloc, &lengths, &node.core)?,
             search: LocalSearch::new(alloc, size, places)?,
             fitting: Fitting::new(alloc, places)?,
-            found: PlaceValues::new(alloc, places)?,
             listed: listed(alloc, &lengths)?,
             memories: Vec::new(alloc),
             aside: 0,
@@ -88,8 +86,7 @@ impl Adviser {
     pub fn begin_with(&mut self, values: &[u32])
         ensures { KeepsShape self.old self.new }
     {
-        self.state
-            .begin_with(&self.lengths, &mut self.found, values);
+        self.state.begin_with(&self.lengths, values);
     }
 
     /// The workers.
@@ -101,14 +98,9 @@ impl Adviser {
         }
     }
 
-    /// The scale of gaps, for this cutoff.
-    pub(crate) fn scale(&self, wanted: i128) -> i128 {
-        self.sets.scale(&self.lengths, wanted)
-    }
-
     /// An estimate of the node's bound by the Benders cut from the dual values.
     pub(crate) fn bound(&self) -> i128 {
-        self.state.bound(&self.lengths, &self.node.sides)
+        self.state.sums().bound(&self.lengths, &self.node.sides)
     }
 
     /// Makes one pass, and completes the duals where the bound seems to reach the cutoff.
@@ -148,14 +140,9 @@ impl Advice for Adviser {
         ensures { KeepsShape self.old self.new }
     {
         self.branch = None;
-        match self.node.turned_place(sides) {
+        match self.node.turned(sides) {
             None => self.state.end_waits(),
-            Some(place) => {
-                let is_opened = sides.get(place).copied() == Some(Side::In);
-                let turned = Turned { place, is_opened };
-                self.state
-                    .end_waits_at(&self.lengths, &mut self.found, turned);
-            }
+            Some(turned) => self.state.end_waits_at(&self.lengths, turned),
         }
         copy(sides, &mut self.node.sides);
         self.progress.begin(self.node.is_root());
@@ -188,7 +175,8 @@ impl Advice for Adviser {
 
     fn goes_on(&self, wanted: i128) -> bool {
         let wanted = wanted.min(self.sets.known);
-        self.progress.goes_on(wanted, self.scale(wanted))
+        let scale = self.sets.scale(&self.lengths, wanted);
+        self.progress.goes_on(wanted, scale)
     }
 
     fn settle<R: Threads + Sync>(

@@ -3,13 +3,14 @@
 ghost use Rattle.dual_ascent.specs.Shapes.{KeepsShape};
 
 use crate::adviser::Adviser;
-use crate::fitting::{Manner, Scope};
+use crate::fitting::Manner;
+use crate::sets::note;
 use crate::single::fit_single;
-use ascent_lengths::{Lengths, PassWorkers, at, copy, fill, marked};
-use dual_ascent::{NO_GAIN, PassSpace};
+use ascent_lengths::{PassWorkers, copy, fill, marked};
+use dual_ascent::NO_GAIN;
 use dual_flow::FULL_PRICE;
 use hub_moves::Ground;
-use std::alloc::{AllocError, Global};
+use std::alloc::AllocError;
 use std::thread::Threads;
 
 /// In this many first passes at the root the start set gives caps and least penalties.
@@ -45,18 +46,14 @@ impl Adviser {
         ensures { KeepsShape self.old self.new }
     {
         if !self.node.is_root() {
-            if self.sets.tries.note(&self.sets.start) {
+            if note(&mut self.sets.tries, &self.sets.start) {
                 let _ = self.search_from_start(workers);
             }
             return Ok(false);
         }
-        let ground = Ground {
-            workers: &*workers,
-            lengths: &self.lengths,
-            movable: &self.sets.movable,
-        };
+        let ground = Ground::new(&*workers, &self.lengths, &self.sets.movable);
         self.search.begin(&ground, &mut self.sets.start);
-        let _ = self.sets.tries.note(&self.sets.start);
+        let _ = note(&mut self.sets.tries, &self.sets.start);
         let cost = self.search_from_start(workers);
         self.begin_root(workers, cost);
         if marked(&self.sets.start) == 1 && !self.lengths.tables.has_limit() {
@@ -75,10 +72,8 @@ impl Adviser {
         ensures { KeepsShape self.old self.new }
     {
         let (alloc, lengths, state) = (workers.alloc, &self.lengths, &mut self.state);
-        let bound = fit_single(alloc, lengths, state, Manner::Bound)?.bound(
-            lengths,
-            &self.node.sides,
-        );
+        let sums = fit_single(alloc, lengths, state, Manner::Bound)?;
+        let bound = sums.bound(lengths, &self.node.sides);
         if bound < cost {
             return Ok(false);
         }
@@ -95,11 +90,7 @@ impl Adviser {
     fn search_from_start<R: Threads + Sync>(&mut self, workers: &PassWorkers<'_, R>) -> i128
         ensures { KeepsShape self.old self.new }
     {
-        let ground = Ground {
-            workers: &*workers,
-            lengths: &self.lengths,
-            movable: &self.sets.movable,
-        };
+        let ground = Ground::new(&*workers, &self.lengths, &self.sets.movable);
         let cost = self.search.improve(&ground, &self.sets.start);
         self.sets.offer(&self.lengths, self.search.marks(), cost);
         copy(self.search.marks(), &mut self.sets.start);
@@ -113,21 +104,13 @@ impl Adviser {
         let unit = self.lengths.worth();
         self.search.set_caps(&self.lengths, &mut self.node.caps);
         if self.lengths.wanted.is_some() {
-            let ground = Ground {
-                workers: &*workers,
-                lengths: &self.lengths,
-                movable: &self.sets.movable,
-            };
+            let ground = Ground::new(&*workers, &self.lengths, &self.sets.movable);
             let worth = self.search.hub_worth(&ground, cost);
             let worth = worth.saturating_add(self.lengths.least_fixed);
             let worth = worth.checked_div(unit).unwrap_or(0);
             self.node.hub_worth = worth.clamp(0 - MOST_HUB_WORTH, MOST_HUB_WORTH) as i64;
-            for (k, price) in self.node.prices.iter_mut().enumerate() {
-                *price = if at(&self.sets.start, k) {
-                    FULL_PRICE
-                } else {
-                    0
-                };
+            for (price, is_hub) in self.node.prices.iter_mut().zip(&self.sets.start) {
+                *price = if *is_hub { FULL_PRICE } else { 0 };
             }
         } else if marked(&self.sets.start) == 1 {
             let most = self.search.most_saved(&self.lengths);
@@ -145,7 +128,7 @@ impl Adviser {
         ensures { KeepsShape self.old self.new }
     {
         let passes = self.progress.passes();
-        let scale = self.scale(wanted);
+        let scale = self.sets.scale(&self.lengths, wanted);
         let gap = self.progress.gap(wanted, scale);
         self.node.is_wide = self.node.is_wide && gap >= WIDE_GAP;
         self.node.coarse = if gap >= COARSE_GAP {
@@ -185,55 +168,11 @@ impl Adviser {
         if is_due || self.node.wants_others(&self.state.sums().loads) {
             self.complete(workers)?;
             self.node.age = 1;
-            if self.scale(wanted) >= wanted {
+            if self.sets.scale(&self.lengths, wanted) >= wanted {
                 self.node.choose_core(&self.state.sums().loads, REACH);
             }
         }
-        renew(
-            workers.alloc,
-            &self.lengths,
-            &self.node.core,
-            &mut self.bench,
-        )
+        let core = &self.node.core;
+        self.bench.renew(workers.alloc, &self.lengths, core)
     }
-
-    /// Completes the duals at the places outside the core.
-    pub(crate) fn complete<R: Threads + Sync>(
-        &mut self,
-        workers: &PassWorkers<'_, R>,
-    ) -> Result<(), AllocError>
-        ensures { KeepsShape self.old self.new }
-    {
-        if self.node.is_whole() {
-            return Ok(());
-        }
-        self.node.sort_by_load(&self.state.sums().loads);
-        let scope = Scope {
-            order: &self.node.order,
-            core: &self.node.core,
-            sides: &self.node.sides,
-        };
-        let _ = self.fitting.fit(
-            workers,
-            &self.lengths,
-            &mut self.state,
-            scope,
-            Manner::Whole,
-        )?;
-        self.node.make_whole();
-        Ok(())
-    }
-}
-
-/// Makes the workspace again where its core is not that of these places.
-fn renew(
-    alloc: Global,
-    lengths: &Lengths,
-    core: &[usize],
-    bench: &mut PassSpace,
-) -> Result<(), AllocError> {
-    if bench.core().places() != core {
-        *bench = PassSpace::new(alloc, lengths, core)?;
-    }
-    Ok(())
 }

@@ -4,8 +4,8 @@ ghost use Rattle.std.specs.Prelude.{◌≡◌};
 ghost use Rattle.dual_ascent.specs.Shapes.{KeepsShape};
 
 use crate::adviser::Adviser;
-use ascent_lengths::{Lengths, PassWorkers, put};
-use dual_ascent::{Trial, Tried, Turned};
+use ascent_lengths::{Lengths, PassWorkers, put, short};
+use dual_ascent::{Trial, Turned};
 use dual_flow::FULL_PRICE;
 use search_advice::Side;
 use std::alloc::{AllocError, Global};
@@ -18,32 +18,20 @@ const LISTED_PART: usize = 10;
 
 const LEAST_LISTED: usize = 100;
 
-/// A commodity with its flow, and a number that breaks ties without regard to the order.
-#[derive(Clone, Copy, PartialEq, Eq, PartialOrd, Ord)]
-struct Weighty {
-    flow: u32,
-    scrambled: u32,
-    commodity: usize,
-}
-
-/// The commodities with the greatest flows, for trials.
+/// The commodities with the greatest flows, for trials. A scrambled number breaks ties without regard to the order.
 pub(crate) fn listed(alloc: Global, lengths: &Lengths) -> Result<Vec<usize>, AllocError> {
     let mut all = Vec::with_capacity(alloc, lengths.flowing)?;
     for c in 0..lengths.commodities() {
         let flow = lengths.flow(c);
         if flow > 0 {
-            all.push(Weighty {
-                flow,
-                scrambled: (c.min(u32::MAX as usize) as u32).wrapping_mul(2_654_435_761),
-                commodity: c,
-            })?;
+            all.push((flow, short(c).wrapping_mul(2_654_435_761), c))?;
         }
     }
     all.sort_unstable();
     let count = all.len().div_ceil(LISTED_PART).max(LEAST_LISTED);
     let mut listed = Vec::with_capacity(alloc, count)?;
-    for some in all.iter().rev().take(count) {
-        listed.push(some.commodity)?;
+    for (_, _, commodity) in all.iter().rev().take(count) {
+        listed.push(*commodity)?;
     }
     Ok(listed)
 }
@@ -64,7 +52,7 @@ impl Adviser {
         self.node.little = None;
         self.node.coarse = 0;
         self.node.sort_by_price();
-        let trial = Trial::new(workers.alloc, &self.state, self.bench.core(), &self.listed)?;
+        let trial = Trial::new(workers.alloc, &self.state, &self.listed)?;
         let mut most = -1i128;
         let mut chosen = None;
         for number in 0..MOST_TRIED {
@@ -73,9 +61,8 @@ impl Adviser {
             };
             let opened = self.rise(workers, &trial, place, Side::In);
             let closed = self.rise(workers, &trial, place, Side::Out);
-            let score = (opened.min(gap).wrapping_add(least)).wrapping_mul(
-                closed.min(gap).wrapping_add(least),
-            );
+            let score = opened.min(gap).wrapping_add(least);
+            let score = score.wrapping_mul(closed.min(gap).wrapping_add(least));
             if score > most {
                 most = score;
                 chosen = Some(place);
@@ -85,7 +72,8 @@ impl Adviser {
         Ok(())
     }
 
-    /// The rise of the objective by a trial pass with the place on this side.
+    /// The rise of the objective by a trial pass with the place on this side, over the listed commodities that could
+    /// gain by it. Afterwards the duals are as before.
     fn rise<R: Threads + Sync>(
         &mut self,
         workers: &PassWorkers<'_, R>,
@@ -97,35 +85,28 @@ impl Adviser {
     {
         put(&mut self.node.sides, place, side);
         self.node.set_ramps(&self.lengths, None);
-        let tried = Tried {
-            found: &mut self.found,
-            listed: &self.listed,
-            turned: Turned {
-                place,
-                is_opened: side == Side::In,
-            },
-            terms: self.node.terms(),
-        };
-        let (bench, state) = (&mut self.bench, &mut self.state);
-        let rise = trial.rise(workers, &self.lengths, bench, state, tried);
+        let (lengths, terms) = (&self.lengths, self.node.terms());
+        let turned = Turned { place, side };
+        self.state.leave_out_others(lengths, &self.listed, turned);
+        let before = self.state.sums().objective(terms);
+        let _ = self.state.pass(workers, lengths, terms, &mut self.bench);
+        let after = self.state.sums().objective(terms);
+        trial.take_back(&self.listed, &mut self.state);
         put(&mut self.node.sides, place, Side::Free);
-        rise
+        after.wrapping_sub(before).max(0)
     }
 
     /// The free place with the penalty closest to a half after `before` others, if it is between closed and full.
     fn near_place(&self, before: usize) -> Option<usize> {
-        let mut left = before;
-        for turn in &self.node.order {
-            if self.node.sides.get(turn.place).copied() == Some(Side::Free) {
-                if turn.rank >= FULL_PRICE / 2 {
-                    return None;
-                }
-                if left == 0 {
-                    return Some(turn.place);
-                }
-                left = left.wrapping_sub(1);
-            }
+        let (sides, order) = (&self.node.sides, &self.node.order);
+        let mut free = order
+            .iter()
+            .filter(|turn| sides.get(turn.place).copied() == Some(Side::Free));
+        let turn = free.nth(before)?;
+        if turn.rank < FULL_PRICE / 2 {
+            Some(turn.place)
+        } else {
+            None
         }
-        None
     }
 }

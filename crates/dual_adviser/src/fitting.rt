@@ -1,15 +1,14 @@
 //! The duals of all commodities in closed form, by several workers.
 
-ghost use Rattle.std.specs.Prelude.{◌≤◌};
 ghost use Rattle.dual_ascent.specs.Shapes.{KeepsShape};
 
-use crate::origins::{Fitted, Origins};
+use crate::node::Node;
+use crate::origins::Origins;
 use ascent_lengths::{Lengths, PassWorkers, at, copy, marked, short};
 use claim_board::answers;
-use dual_ascent::{State, Sums, Turn};
+use dual_ascent::{State, Sums};
 use hub_io::OpenGate;
 use hub_moves::SetRoutes;
-use search_advice::Side;
 use std::alloc::{AllocError, Global};
 use std::thread::Threads;
 
@@ -37,17 +36,6 @@ impl Manner {
     pub(crate) fn keeps(self) -> bool {
         self == Manner::Tight || self == Manner::Whole
     }
-}
-
-/// The input of a fit: the order of the places, the core, and the sides of the branch.
-#[derive(Clone, Copy)]
-pub(crate) struct Scope<'a> {
-    /// The order in which places get their values.
-    pub(crate) order: &'a [Turn],
-    /// The core: the places whose values are up to date.
-    pub(crate) core: &'a [usize],
-    /// The side of each place in the branch.
-    pub(crate) sides: &'a [Side],
 }
 
 /// The workspace of a fit: the hub set with its routes, the places that are out of date, those that get values, in
@@ -95,13 +83,13 @@ impl Fitting {
         Ok(())
     }
 
-    /// Lists the places that are out of date, and those that get values, in order. Sums start at 0, for a guess at the
-    /// present ones.
-    fn begin(&mut self, state: &State, scope: Scope<'_>, manner: Manner) {
+    /// Lists the places that are out of date, and those that get values, in the node's order. Sums start at 0, for a
+    /// guess at the present ones.
+    fn begin(&mut self, state: &State, node: &Node, manner: Manner) {
         self.stale.clear();
         self.asked.clear();
-        for turn in scope.order {
-            let is_stale = !scope.core.contains(&turn.place);
+        for turn in &node.order {
+            let is_stale = !node.core.contains(&turn.place);
             let is_asked = match manner {
                 Manner::Whole => is_stale,
                 Manner::Guess => !is_stale && !at(&self.marks, turn.place),
@@ -121,69 +109,41 @@ impl Fitting {
         }
     }
 
-    /// Computes the duals in this manner, and returns the bound of the branch by them.
+    /// Computes the duals in this manner, and returns the bound of the node by them.
     pub(crate) fn fit<R: Threads + Sync>(
         &mut self,
         workers: &PassWorkers<'_, R>,
         lengths: &Lengths,
         state: &mut State,
-        scope: Scope<'_>,
+        node: &Node,
         manner: Manner,
     ) -> Result<i128, AllocError>
         ensures { KeepsShape state.old state.new }
     {
-        self.begin(state, scope, manner);
-        let batch = batch(workers);
+        self.begin(state, node, manner);
+        let many = workers.many();
+        let batch = (many as usize).wrapping_mul(ORIGINS_AT_ONCE).max(1);
         for number in 0..lengths.size.div_ceil(batch) {
             let first = number.wrapping_mul(batch);
-            let found = self.fitted(workers, lengths, state, manner, first)?;
+            let origins = Origins {
+                lengths,
+                fitting: self,
+                manner,
+                state,
+                first,
+            };
+            let count = short(lengths.size.saturating_sub(first).min(batch));
+            let gate = OpenGate;
+            let found = answers(workers.rt, workers.alloc, &origins, count, many, &gate)?;
             for (e, duals) in found.iter().enumerate() {
                 state.put_origin(first.wrapping_add(e), &duals.prices, &duals.values);
                 self.sums.add(&duals.sums);
             }
         }
-        let bound = self.sums.bound(lengths, scope.sides);
+        let bound = self.sums.bound(lengths, &node.sides);
         if manner.keeps() {
             state.take_sums(&self.sums);
         }
         Ok(bound)
     }
-
-    /// The new duals of a batch of origins, from `first` on.
-    fn fitted<'a, R: Threads + Sync>(
-        &'a self,
-        workers: &PassWorkers<'_, R>,
-        lengths: &'a Lengths,
-        state: &'a State,
-        manner: Manner,
-        first: usize,
-    ) -> Result<Vec<Fitted>, AllocError> {
-        let origins = Origins {
-            lengths,
-            fitting: self,
-            manner,
-            quotes: state.quotes(),
-            values: state.values(),
-            first,
-        };
-        let left = lengths.size.saturating_sub(first);
-        let count = short(left.min(batch(workers)));
-        answers(
-            workers.rt,
-            workers.alloc,
-            &origins,
-            count,
-            workers.many(),
-            &OpenGate,
-        )
-    }
-}
-
-/// The number of origins in a batch.
-fn batch<R>(workers: &PassWorkers<'_, R>) -> usize
-    ensures { 1 ≤ result }
-{
-    (workers.many() as usize)
-        .wrapping_mul(ORIGINS_AT_ONCE)
-        .max(1)
 }

@@ -4,7 +4,7 @@ use crate::fitting::{Fitting, Manner};
 use crate::tight::{begin_tight, is_tight};
 use ascent_lengths::{CommodityLengths, Lengths, PlaceValues, copy, put, row, row_mut};
 use claim_board::Job;
-use dual_ascent::{Quote, Sums};
+use dual_ascent::{State, Sums};
 use std::alloc::{AllocError, Global};
 
 /// The new prices and values of an origin, and their sums; for a guess, the change of the sums. Only the sums are there
@@ -23,8 +23,7 @@ pub(crate) struct Origins<'a> {
     pub(crate) lengths: &'a Lengths,
     pub(crate) fitting: &'a Fitting,
     pub(crate) manner: Manner,
-    pub(crate) quotes: &'a [Quote],
-    pub(crate) values: &'a [u32],
+    pub(crate) state: &'a State,
     pub(crate) first: usize,
 }
 
@@ -93,8 +92,8 @@ impl<'a> Job<Fitted> for Origins<'a> {
     ) -> Result<Fitted, AllocError> {
         let lengths = self.lengths;
         let i = self.first.wrapping_add(block as usize);
-        let values = row(self.values, i, lengths.origin_values());
-        let quotes = row(self.quotes, i, lengths.size);
+        let values = row(self.state.values(), i, lengths.origin_values());
+        let quotes = row(self.state.quotes(), i, lengths.size);
         let mut duals = self.begin(alloc, values)?;
         for (j, (flow, quote)) in lengths.flows(i).iter().zip(quotes).enumerate() {
             let before = row(values, j, lengths.places);

@@ -1,9 +1,10 @@
-//! Rounding: the hub set that penalties give, to improve, and to make duals tight at.
+//! Rounding: the hub set that penalties give, to improve, and to make duals tight at; and the fits of a node.
 
 ghost use Rattle.dual_ascent.specs.Shapes.{KeepsShape};
 
 use crate::adviser::Adviser;
-use crate::fitting::{Manner, Scope};
+use crate::fitting::Manner;
+use crate::sets::note;
 use ascent_lengths::PassWorkers;
 use hub_moves::Ground;
 use std::alloc::AllocError;
@@ -32,13 +33,9 @@ impl Adviser {
         if !self.node.mark_rounded(&mut self.sets.rounded) {
             return Ok(());
         }
-        if self.sets.tries.note(&self.sets.rounded) {
+        if note(&mut self.sets.tries, &self.sets.rounded) {
             self.node.mark_near(&mut self.sets.movable);
-            let ground = Ground {
-                workers: &*workers,
-                lengths: &self.lengths,
-                movable: &self.sets.movable,
-            };
+            let ground = Ground::new(&*workers, &self.lengths, &self.sets.movable);
             let cost = self.search.improve(&ground, &self.sets.rounded);
             self.sets.offer(&self.lengths, self.search.marks(), cost);
         }
@@ -64,43 +61,48 @@ impl Adviser {
         if !is_near {
             return Ok(());
         }
-        self.node.sort_by_load(&self.state.sums().loads);
         self.fitting
             .take(workers.alloc, &self.lengths, &self.sets.rounded)?;
-        let scope = Scope {
-            order: &self.node.order,
-            core: &self.node.core,
-            sides: &self.node.sides,
-        };
-        let guess = self.fitting.fit(
-            workers,
-            &self.lengths,
-            &mut self.state,
-            scope,
-            Manner::Guess,
-        )?;
-        let left = wanted.wrapping_sub(guess);
-        if left > wanted.wrapping_sub(bound) / GUESSED_GAP && left > wanted / GUESSED_COST {
+        let left = wanted.wrapping_sub(self.fit(workers, Manner::Guess)?);
+        let is_far = left > wanted.wrapping_sub(bound) / GUESSED_GAP;
+        if is_far && left > wanted / GUESSED_COST {
             return Ok(());
         }
-        let tight = self.fitting.fit(
-            workers,
-            &self.lengths,
-            &mut self.state,
-            scope,
-            Manner::Bound,
-        )?;
-        if tight < wanted {
-            return Ok(());
+        if self.fit(workers, Manner::Bound)? >= wanted {
+            self.progress.bound = self.fit(workers, Manner::Tight)?;
         }
-        self.progress.bound = self.fitting.fit(
-            workers,
-            &self.lengths,
-            &mut self.state,
-            scope,
-            Manner::Tight,
-        )?;
-        self.node.make_whole();
         Ok(())
+    }
+
+    /// Completes the duals at the places outside the core.
+    pub(crate) fn complete<R: Threads + Sync>(
+        &mut self,
+        workers: &PassWorkers<'_, R>,
+    ) -> Result<(), AllocError>
+        ensures { KeepsShape self.old self.new }
+    {
+        if !self.node.is_whole() {
+            let _ = self.fit(workers, Manner::Whole)?;
+        }
+        Ok(())
+    }
+
+    /// Computes the duals in this manner, and returns the bound by them. Those that are stored are complete.
+    fn fit<R: Threads + Sync>(
+        &mut self,
+        workers: &PassWorkers<'_, R>,
+        manner: Manner,
+    ) -> Result<i128, AllocError>
+        ensures { KeepsShape self.old self.new }
+    {
+        self.node.sort_by_load(&self.state.sums().loads);
+        let (lengths, state) = (&self.lengths, &mut self.state);
+        let bound = self
+            .fitting
+            .fit(workers, lengths, state, &self.node, manner)?;
+        if manner.keeps() {
+            self.node.make_whole();
+        }
+        Ok(bound)
     }
 }

@@ -18,7 +18,8 @@ pub(crate) struct Sets {
     pub(crate) start: Vec<bool>,
     pub(crate) rounded: Vec<bool>,
     pub(crate) movable: Vec<bool>,
-    pub(crate) tries: Tries,
+    // The sets that local searches started from, as bits.
+    pub(crate) tries: Vec<[u64; 4]>,
 }
 
 impl Sets {
@@ -32,9 +33,7 @@ impl Sets {
             start: vec![in alloc; false; places]?,
             rounded: vec![in alloc; false; places]?,
             movable: vec![in alloc; false; places]?,
-            tries: Tries {
-                sets: Vec::new(alloc),
-            },
+            tries: Vec::new(alloc),
         })
     }
 
@@ -50,10 +49,7 @@ impl Sets {
 
     /// Takes the set as the best, if it costs less and has the required number of hubs.
     pub(crate) fn offer(&mut self, lengths: &Lengths, marks: &[bool], cost: i128) {
-        let fits = match lengths.wanted {
-            None => true,
-            Some(hubs) => marked(marks) == hubs,
-        };
+        let fits = lengths.wanted.is_none_or(|hubs| marked(marks) == hubs);
         if fits && cost < self.cost {
             self.cost = cost;
             self.known = self.known.min(cost);
@@ -74,29 +70,18 @@ impl Sets {
     }
 }
 
-/// The sets that local searches started from, each as bits of up to 256 places.
-#[derive(Drop)]
-pub(crate) struct Tries {
-    sets: Vec<[u64; 4]>,
-}
-
-impl Tries {
-    /// Records the marked set, and returns whether it is new. Where memory runs out it is not recorded.
-    pub(crate) fn note(&mut self, marks: &[bool]) -> bool {
-        let mut words = [0u64; 4];
-        for (k, mark) in marks.iter().enumerate() {
-            if *mark && k < 256 {
-                words[k / 64] |= 1 << (k % 64);
-            }
+/// Records the marked set, as bits of up to 256 places, and returns whether it is new. Where memory runs out it is not
+/// recorded.
+pub(crate) fn note(tries: &mut Vec<[u64; 4]>, marks: &[bool]) -> bool {
+    let mut words = [0u64; 4];
+    for (k, mark) in marks.iter().enumerate() {
+        if *mark && k < 256 {
+            words[k / 64] |= 1 << (k % 64);
         }
-        for set in &self.sets {
-            if *set == words {
-                return false;
-            }
-        }
-        if self.sets.len() < MOST_TRIES {
-            let _ = self.sets.push(words);
-        }
-        true
     }
+    let is_new = !tries.contains(&words);
+    if is_new && tries.len() < MOST_TRIES {
+        let _ = tries.push(words);
+    }
+    is_new
 }

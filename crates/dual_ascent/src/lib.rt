@@ -14,17 +14,15 @@
 //! lengths.
 //!
 //! In the order of reading: `ramps` (penalties and orders by loads), `waits` (back-off), `sums` (total and loads of
-//! all duals, and their bound), `state` (all duals). Then `seen` (the core: the places that passes see), `steps` (a
-//! mix of old values and new), `origins` (the duals of one origin). Last `schedule` (the order of the origins),
-//! `passes` and `sharing` (a pass by one worker, or by several), `trials` (a pass that is undone, for strong
-//! branching).
+//! all duals, and their bound), `state` (all duals). Then `steps` (a mix of old values and new) and `origins` (the duals
+//! of one origin). Last `schedule` (the order of the origins), `passes` and `sharing` (a pass by one worker, or by
+//! several), `trials` (what a trial pass of strong branching changes).
 #![tactic(auto)]
 
 mod origins;
 mod passes;
 mod ramps;
 mod schedule;
-mod seen;
 mod sharing;
 mod state;
 mod steps;
@@ -35,7 +33,7 @@ mod waits;
 pub use origins::OriginTerms;
 pub use passes::PassSpace;
 pub use ramps::{NO_RAMP, NO_TURN, Ramp, Slope, Turn, set_order, set_prices};
-pub use state::{State, Turned};
+pub use state::{Snapshot, State, Turned};
 pub use sums::Sums;
-pub use trials::{Trial, Tried};
+pub use trials::Trial;
 pub use waits::{Gain, NO_GAIN, Quote};

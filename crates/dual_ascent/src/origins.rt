@@ -143,7 +143,7 @@ impl Stand {
         let before = quote.price;
         let cap = at(row(terms.caps, i, lengths.size), j);
         let found = self.best.find(&legs, priced, cap, before);
-        gather(values, pass.core.places(), &mut self.old);
+        gather(values, &pass.core.places, &mut self.old);
         let is_fine = terms.coarse == 0;
         if !is_fine {
             self.best.complete(&legs, &self.others);
@@ -189,7 +189,7 @@ impl Stand {
         let parts = self.steps.parts(change);
         if self
             .steps
-            .take(parts, pass.core.places(), values, terms.coarse)
+            .take(parts, &pass.core.places, values, terms.coarse)
         {
             self.is_split = false;
         }

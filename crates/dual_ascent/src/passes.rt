@@ -9,14 +9,25 @@ ghost use Rattle.dual_ascent.specs.Shapes.{KeepsShape};
 use crate::origins::{OriginTerms, Stand};
 use crate::ramps::{NO_RAMP, NO_TURN, Ramp, Turn};
 use crate::schedule::{Window, schedule};
-use crate::seen::Core;
 use crate::sharing::better_together;
 use crate::state::State;
 use crate::sums::Sums;
 use crate::waits::{Gain, NO_GAIN, Quote};
-use ascent_lengths::{Lengths, PassWorkers, add, copy, fill, gather, put, row, row_mut};
+use ascent_lengths::{
+    LengthTables, Lengths, PassWorkers, add, copy, fill, gather, put, row, row_mut,
+};
 use std::alloc::{AllocError, Global};
 use std::thread::Threads;
+
+/// The core: the places that passes see, ascending, and the tables over them alone, by their indices in the core.
+///
+/// Most places never get a penalty. Passes that see only those near one have shorter rows. The values of the other
+/// places are out of date until they are completed.
+#[derive(Drop)]
+pub(crate) struct Core {
+    pub(crate) places: Vec<usize>,
+    pub(crate) tables: LengthTables,
+}
 
 /// What a pass reads besides the duals: the instance, the core, the terms over it, the order of the origins, and how
 /// many are under way at a time.
@@ -46,7 +57,7 @@ impl InTurn {
         sums: &mut Sums,
     ) -> Gain {
         let lengths = pass.lengths;
-        let count = pass.core.count();
+        let count = pass.core.places.len();
         let rows = pass.window.origins.max(1);
         fill(&mut self.under_way, 0);
         let mut all = NO_GAIN;
@@ -91,7 +102,10 @@ impl PassSpace {
     ) -> Result<PassSpace, AllocError> {
         let rows = Window::of(lengths.size).origins;
         Ok(PassSpace {
-            core: Core::of(alloc, lengths, places)?,
+            core: Core {
+                places: places.to_vec(alloc)?,
+                tables: lengths.tables.over(alloc, places)?,
+            },
             ramps: vec![in alloc; NO_RAMP; places.len()]?,
             sums: Sums::new(alloc, places.len())?,
             origins: vec![in alloc; NO_TURN; lengths.size]?,
@@ -102,24 +116,32 @@ impl PassSpace {
         })
     }
 
-    /// The core.
-    pub fn core(&self) -> &Core {
-        &self.core
+    /// Makes it again where it is not the workspace of these places.
+    pub fn renew(
+        &mut self,
+        alloc: Global,
+        lengths: &Lengths,
+        places: &[usize],
+    ) -> Result<(), AllocError> {
+        if self.core.places.as_slice() != places {
+            *self = PassSpace::new(alloc, lengths, places)?;
+        }
+        Ok(())
     }
 
     /// Copies ramps and sums of the core's places from those of all places.
     fn begin(&mut self, ramps: &[Ramp], sums: &Sums) {
-        for (ramp, k) in self.ramps.iter_mut().zip(self.core.places()) {
+        for (ramp, k) in self.ramps.iter_mut().zip(&self.core.places) {
             *ramp = ramps.get(*k).copied().unwrap_or(NO_RAMP);
         }
         self.sums.total = sums.total;
-        gather(&sums.loads, self.core.places(), &mut self.sums.loads);
+        gather(&sums.loads, &self.core.places, &mut self.sums.loads);
     }
 
     /// Copies the sums back to those of all places.
     fn end(&self, sums: &mut Sums) {
         sums.total = self.sums.total;
-        for (load, k) in self.sums.loads.iter().zip(self.core.places()) {
+        for (load, k) in self.sums.loads.iter().zip(&self.core.places) {
             put(&mut sums.loads, *k, *load);
         }
     }
@@ -145,42 +167,21 @@ impl State {
             core: &bench.core,
             terms: OriginTerms {
                 ramps: &bench.ramps,
-                caps: terms.caps,
-                little: terms.little,
-                hubs: terms.hubs,
-                extra: terms.extra,
-                coarse: terms.coarse,
+                ..terms
             },
             origins: &bench.origins,
             window: Window::of(lengths.size),
         };
-        let (quotes, values) = (&mut self.quotes, &mut self.values);
-        let gain = better_pass(
-            workers,
-            pass,
-            &mut bench.in_turn,
-            quotes,
-            values,
-            &mut bench.sums,
-        );
+        let (quotes, values, sums) = (&mut self.quotes, &mut self.values, &mut bench.sums);
+        let mut together = Err(AllocError);
+        if workers.count > 1 && pass.window.origins > 1 {
+            together = better_together(workers, pass, quotes, values, sums);
+        }
+        let gain = match together {
+            Ok(gain) => gain,
+            Err(_) => bench.in_turn.better_all(pass, quotes, values, sums),
+        };
         bench.end(&mut self.sums);
         gain
     }
-}
-
-/// Makes the pass by several workers, or by one.
-fn better_pass<R: Threads + Sync>(
-    workers: &PassWorkers<'_, R>,
-    pass: Pass<'_>,
-    in_turn: &mut InTurn,
-    quotes: &mut [Quote],
-    values: &mut [u32],
-    sums: &mut Sums,
-) -> Gain {
-    if workers.count > 1 && pass.window.origins > 1 {
-        if let Ok(gain) = better_together(workers, pass, quotes, values, sums) {
-            return gain;
-        }
-    }
-    in_turn.better_all(pass, quotes, values, sums)
 }

@@ -147,7 +147,7 @@ impl Shared<'_> {
         let mut share = Share {
             shared: self,
             partner: Partner::new(alloc, self.tickets, desk),
-            stand: Stand::new(alloc, pass.core.count())?,
+            stand: Stand::new(alloc, pass.core.places.len())?,
             values: vec![in alloc; 0; pass.lengths.origin_values()]?,
             over: 0,
             crop: WorkerResult {

@@ -4,10 +4,11 @@ ghost use Rattle.std.specs.Prelude.{◌≡◌, ◌≤◌, length, IfOk};
 ghost use Rattle.hub_spec.specs.Limits.{most_nodes};
 ghost use Rattle.dual_ascent.specs.Shapes.{cells, KeepsShape};
 
-use crate::origins::OriginTerms;
 use crate::sums::Sums;
 use crate::waits::{LONG_WAIT, NO_QUOTE, NO_WAIT, Quote};
-use ascent_lengths::{CommodityLengths, Lengths, PlaceValues, at, copy, fill, put, row, row_mut};
+use ascent_lengths::{
+    CommodityLengths, Lengths, PlaceValues, at, copy, fill, put, row, row_mut, short,
+};
 use search_advice::Side;
 use std::alloc::{AllocError, Global};
 use std::marker::Model;
@@ -21,6 +22,8 @@ pub struct State {
     pub(crate) quotes: Vec<Quote>,
     pub(crate) values: Vec<u32>,
     pub(crate) sums: Sums,
+    // A buffer for the values of a commodity.
+    found: PlaceValues,
 }
 
 impl Model for State {
@@ -48,6 +51,7 @@ impl State {
             quotes: vec![in alloc; NO_QUOTE; commodities]?,
             values: vec![in alloc; 0; commodities * places]?,
             sums: Sums::new(alloc, places)?,
+            found: PlaceValues::new(alloc, places)?,
         })
     }
 
@@ -56,20 +60,6 @@ impl State {
         ensures { length result.now ≡ cells self.now }
     {
         &self.values
-    }
-
-    /// Sets all values to 0.
-    pub fn clear_values(&mut self)
-        ensures { KeepsShape self.old self.new }
-    {
-        fill(&mut self.values, 0);
-    }
-
-    /// Sets the value of a place for the commodity of this index.
-    pub fn put_value(&mut self, commodity: usize, k: usize, value: u32)
-        ensures { KeepsShape self.old self.new }
-    {
-        scatter(&mut self.values, [commodity, self.places], &[k], &[value]);
     }
 
     /// The prices and back-offs, commodity by commodity.
@@ -96,16 +86,6 @@ impl State {
         self.sums.take(sums);
     }
 
-    /// The bound of a branch with these sides by the Benders cut of these duals, in 10^-12.
-    pub fn bound(&self, lengths: &Lengths, sides: &[Side]) -> i128 {
-        self.sums.bound(lengths, sides)
-    }
-
-    /// The objective that passes increase, by the ramps of these terms, weighted by the flows.
-    pub fn objective(&self, terms: OriginTerms<'_>) -> i128 {
-        self.sums.objective(terms)
-    }
-
     /// Sets the duals of an origin: a price and a row of values for each destination.
     pub fn put_origin(&mut self, i: usize, prices: &[u32], values: &[u32])
         ensures { KeepsShape self.old self.new }
@@ -114,14 +94,36 @@ impl State {
         for (quote, price) in quotes.iter_mut().zip(prices) {
             quote.price = *price;
         }
-        copy_into(values, &mut self.values, [i, values.len()]);
+        put_row(&mut self.values, i, values);
     }
 
-    /// Sets prices and back-offs.
-    pub fn take_quotes(&mut self, quotes: &[Quote])
+    /// A copy of the duals.
+    pub fn snapshot(&self, alloc: Global) -> Result<Snapshot, AllocError> {
+        let some = self.values.iter().filter(|value| **value > 0).count();
+        let mut values = Vec::with_capacity(alloc, some)?;
+        for (index, value) in self.values.iter().enumerate() {
+            if *value > 0 {
+                values.push((short(index), *value))?;
+            }
+        }
+        Ok(Snapshot {
+            quotes: self.quotes.to_vec(alloc)?,
+            values,
+            sums: self.sums.copied(alloc)?,
+        })
+    }
+
+    /// Restores the duals.
+    pub fn restore(&mut self, kept: &Snapshot)
         ensures { KeepsShape self.old self.new }
     {
-        copy(quotes, &mut self.quotes);
+        copy(&kept.quotes, &mut self.quotes);
+        self.sums.take(&kept.sums);
+        let values = self.values.as_mut_slice();
+        fill(values, 0);
+        for (index, value) in &kept.values {
+            put(values, *index as usize, *value);
+        }
     }
 
     /// Clears all back-offs.
@@ -143,36 +145,30 @@ impl State {
     }
 
     /// Clears the back-off of each commodity that could gain where a place changes sides.
-    pub fn end_waits_at(&mut self, lengths: &Lengths, found: &mut PlaceValues, turned: Turned)
+    pub fn end_waits_at(&mut self, lengths: &Lengths, turned: Turned)
         ensures { KeepsShape self.old self.new }
     {
-        let places = self.places;
+        let (places, found) = (self.places, &mut self.found);
         for (c, quote) in self.quotes.iter_mut().enumerate() {
             let values = row(&self.values, c, places);
-            if turned.could_gain(lengths, found, [c, quote.price as usize], values) {
+            if turned.could_gain(lengths, found, c, quote.price, values) {
                 quote.wait = NO_WAIT;
             }
         }
     }
 
     /// Leaves all commodities out of the next passes, except those listed that could gain where a place changes sides.
-    pub(crate) fn leave_out_others(
-        &mut self,
-        lengths: &Lengths,
-        found: &mut PlaceValues,
-        listed: &[usize],
-        turned: Turned,
-    )
+    pub fn leave_out_others(&mut self, lengths: &Lengths, listed: &[usize], turned: Turned)
         ensures { KeepsShape self.old self.new }
     {
         for quote in self.quotes.iter_mut() {
             quote.wait = LONG_WAIT;
         }
-        let (places, quotes) = (self.places, &mut self.quotes);
+        let (places, quotes, found) = (self.places, &mut self.quotes, &mut self.found);
         for c in listed {
             let values = row(&self.values, *c, places);
             if let Some(quote) = quotes.get_mut(*c) {
-                if turned.could_gain(lengths, found, [*c, quote.price as usize], values) {
+                if turned.could_gain(lengths, found, *c, quote.price, values) {
                     quote.wait = NO_WAIT;
                 }
             }
@@ -181,22 +177,21 @@ impl State {
 
     /// Starts from these values, one for each place of each commodity in order, and from the greatest feasible prices.
     /// Past the end of the list values are 0. None is greater than the longest route.
-    pub fn begin_with(&mut self, lengths: &Lengths, found: &mut PlaceValues, values: &[u32])
+    pub fn begin_with(&mut self, lengths: &Lengths, values: &[u32])
         ensures { KeepsShape self.old self.new }
     {
-        fill(&mut self.values, 0);
-        copy(values, &mut self.values);
-        limit(&mut self.values, lengths.longest());
+        let longest = lengths.longest();
+        set_limited(&mut self.values, values, longest);
         fill(&mut self.quotes, NO_QUOTE);
         self.sums.clear();
         let (size, places) = (self.size.max(1), self.places);
-        let (quotes, sums) = (&mut self.quotes, &mut self.sums);
+        let (quotes, sums, found) = (&mut self.quotes, &mut self.sums, &mut self.found);
         for (c, quote) in quotes.iter_mut().enumerate() {
             let flow = lengths.flow(c) as i64;
             if flow > 0 {
                 let values = row(&self.values, c, places);
                 let legs = CommodityLengths::of(&lengths.tables, c / size, c % size);
-                quote.price = found.greatest_price(&legs, values, lengths.longest());
+                quote.price = found.greatest_price(&legs, values, longest);
                 sums.add_dual(flow, quote.price, values);
             }
         }
@@ -210,10 +205,8 @@ impl State {
         let values = self.values.as_mut_slice();
         for i in 0..size {
             for j in 0..size {
-                let (from, to) = (
-                    j.wrapping_mul(size).wrapping_add(i),
-                    i.wrapping_mul(size).wrapping_add(j),
-                );
+                let from = j.wrapping_mul(size).wrapping_add(i);
+                let to = i.wrapping_mul(size).wrapping_add(j);
                 if lengths.flow(to) == 0 && lengths.flow(from) > 0 {
                     copy_row(values, places, from, to);
                 }
@@ -222,17 +215,25 @@ impl State {
     }
 }
 
-/// Sets the items of these places in a row of a table, given by index and width.
-pub(crate) fn scatter(table: &mut [u32], index: [usize; 2], places: &[usize], items: &[u32]) {
-    let items_of_row = row_mut(table, index[0], index[1]);
-    for (k, item) in places.iter().zip(items) {
-        put(items_of_row, *k, *item);
-    }
+/// The duals of a state as they were: prices with back-offs, the values above 0 with their indices, and the sums.
+#[derive(Drop)]
+pub struct Snapshot {
+    quotes: Vec<Quote>,
+    values: Vec<(u32, u32)>,
+    sums: Sums,
 }
 
-/// Copies the items into a row of a table, given by index and width.
-fn copy_into(items: &[u32], table: &mut [u32], index: [usize; 2]) {
-    copy(items, row_mut(table, index[0], index[1]));
+/// Sets the row of this index in a table of rows of this length.
+fn put_row(table: &mut [u32], index: usize, items: &[u32]) {
+    copy(items, row_mut(table, index, items.len()));
+}
+
+/// Sets the items to the given ones, each at most this, and those past their end to 0.
+fn set_limited(items: &mut [u32], given: &[u32], most: u32) {
+    fill(items, 0);
+    for (item, value) in items.iter_mut().zip(given) {
+        *item = most.min(*value);
+    }
 }
 
 /// Copies a row to another one.
@@ -244,37 +245,30 @@ fn copy_row(table: &mut [u32], width: usize, from: usize, to: usize) {
     }
 }
 
-/// Lowers each item to at most this.
-fn limit(items: &mut [u32], most: u32) {
-    for item in items.iter_mut() {
-        *item = (*item).min(most);
-    }
-}
-
 /// A place that changes sides.
 #[derive(Clone, Copy)]
 pub struct Turned {
     /// The place.
     pub place: usize,
-    /// Whether it becomes a hub; else it is closed.
-    pub is_opened: bool,
+    /// Its new side.
+    pub side: Side,
 }
 
 impl Turned {
-    /// Returns whether the dual of a commodity, given by index and price, could gain: it has a value at the place, or
-    /// the place is closed and some route over it is nearly as short as the values allow.
+    /// Returns whether the dual of commodity `c`, with this price and these values, could gain: it has a value at the
+    /// place, or the place does not become a hub and some route over it is nearly as short as the values allow.
     fn could_gain(
-        &self,
+        self,
         lengths: &Lengths,
         found: &mut PlaceValues,
-        commodity: [usize; 2],
+        c: usize,
+        price: u32,
         values: &[u32],
     ) -> bool {
-        let [c, price] = commodity;
-        if lengths.flow(c) == 0 || at(values, self.place) > 0 || self.is_opened {
-            return lengths.flow(c) > 0 && at(values, self.place) > 0;
+        let (has_flow, has_value) = (lengths.flow(c) > 0, at(values, self.place) > 0);
+        if !has_flow || has_value || self.side == Side::In {
+            return has_flow && has_value;
         }
-        let price = ascent_lengths::short(price);
         let limit = price.saturating_add(price / 64).saturating_add(1);
         let size = lengths.size.max(1);
         let legs = CommodityLengths::of(&lengths.tables, c / size, c % size);

@@ -61,7 +61,7 @@ impl Sums {
 
     /// The objective that passes increase: total of the prices less the cost of the loads by their ramps, weighted by
     /// the flows.
-    pub(crate) fn objective(&self, terms: OriginTerms<'_>) -> i128 {
+    pub fn objective(&self, terms: OriginTerms<'_>) -> i128 {
         let extra = terms.extra_at(&self.loads);
         let hubs = terms.hubs.unwrap_or(1) as i128;
         let beside = hubs.wrapping_mul(extra as i128);

@@ -1,19 +1,15 @@
-//! A pass that is undone: its rise is the score of a candidate in strong branching.
+//! What a trial pass of strong branching changes, to undo it.
 
 ghost use Rattle.dual_ascent.specs.Shapes.{KeepsShape};
 
-use crate::origins::OriginTerms;
-use crate::passes::PassSpace;
-use crate::seen::Core;
-use crate::state::{State, Turned, scatter};
+use crate::state::State;
 use crate::sums::Sums;
 use crate::waits::Quote;
-use ascent_lengths::{Lengths, PassWorkers, PlaceValues, at, row};
+use ascent_lengths::{copy, row, row_mut};
 use std::alloc::{AllocError, Global};
-use std::thread::Threads;
 
-/// What a trial may change, as it was before: all prices and back-offs, the sums, and the values of the listed
-/// commodities at the core's places.
+/// What trials over some listed commodities may change, as it was before: all prices and back-offs, the sums, and the
+/// values of these commodities.
 #[derive(Drop)]
 pub struct Trial {
     quotes: Vec<Quote>,
@@ -23,18 +19,10 @@ pub struct Trial {
 
 impl Trial {
     /// A copy of what trials over these commodities may change.
-    pub fn new(
-        alloc: Global,
-        state: &State,
-        core: &Core,
-        listed: &[usize],
-    ) -> Result<Trial, AllocError> {
-        let mut values = Vec::with_capacity(alloc, listed.len().wrapping_mul(core.count()))?;
+    pub fn new(alloc: Global, state: &State, listed: &[usize]) -> Result<Trial, AllocError> {
+        let mut values = Vec::with_capacity(alloc, listed.len().wrapping_mul(state.places))?;
         for c in listed {
-            let row = row(&state.values, *c, state.places);
-            for k in core.places() {
-                values.push(at(row, *k))?;
-            }
+            values.extend_from_slice(row(&state.values, *c, state.places))?;
         }
         Ok(Trial {
             quotes: state.quotes.to_vec(alloc)?,
@@ -43,55 +31,16 @@ impl Trial {
         })
     }
 
-    /// Restores everything.
-    fn take_back(&self, core: &Core, listed: &[usize], state: &mut State)
+    /// Restores everything, given the same commodities.
+    pub fn take_back(&self, listed: &[usize], state: &mut State)
         ensures { KeepsShape state.old state.new }
     {
-        state.take_quotes(&self.quotes);
+        copy(&self.quotes, &mut state.quotes);
         state.sums.take(&self.sums);
         let (places, values) = (state.places, state.values.as_mut_slice());
         for (number, c) in listed.iter().enumerate() {
-            let kept = row(&self.values, number, core.count());
-            scatter(values, [*c, places], core.places(), kept);
+            let kept = row(&self.values, number, places);
+            copy(kept, row_mut(values, *c, places));
         }
     }
-
-    /// The rise of the objective by a pass at its terms, over the listed commodities that could gain where the place
-    /// changes sides. Afterwards the duals are as before.
-    pub fn rise<R: Threads + Sync>(
-        &self,
-        workers: &PassWorkers<'_, R>,
-        lengths: &Lengths,
-        bench: &mut PassSpace,
-        state: &mut State,
-        tried: Tried<'_>,
-    ) -> i128
-        ensures { KeepsShape state.old state.new }
-    {
-        let Tried {
-            found,
-            listed,
-            turned,
-            terms,
-        } = tried;
-        state.leave_out_others(lengths, found, listed, turned);
-        let before = state.objective(terms);
-        let _ = state.pass(workers, lengths, terms, bench);
-        let after = state.objective(terms);
-        self.take_back(bench.core(), listed, state);
-        after.wrapping_sub(before).max(0)
-    }
-}
-
-/// The input of a trial: a buffer for the values of a commodity, and the place that changes sides.
-#[derive(Drop)]
-pub struct Tried<'a> {
-    /// A buffer for the values of a commodity.
-    pub found: &'a mut PlaceValues,
-    /// The commodities that take part, those of the trial.
-    pub listed: &'a [usize],
-    /// The place that changes sides.
-    pub turned: Turned,
-    /// The terms of the pass.
-    pub terms: OriginTerms<'a>,
 }

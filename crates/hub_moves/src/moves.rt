@@ -11,12 +11,24 @@ const MOST_ROUNDS: usize = 100;
 /// The input of a local search: workers, instance, and the places that may be opened or closed.
 #[derive(Drop)]
 pub struct Ground<'a, R> {
-    /// The workers.
-    pub workers: &'a PassWorkers<'a, R>,
-    /// The instance.
-    pub lengths: &'a Lengths,
-    /// The places that may be opened or closed.
-    pub movable: &'a [bool],
+    workers: &'a PassWorkers<'a, R>,
+    lengths: &'a Lengths,
+    movable: &'a [bool],
+}
+
+impl<'a, R> Ground<'a, R> {
+    /// The input with these parts.
+    pub fn new(
+        workers: &'a PassWorkers<'a, R>,
+        lengths: &'a Lengths,
+        movable: &'a [bool],
+    ) -> Ground<'a, R> {
+        Ground {
+            workers,
+            lengths,
+            movable,
+        }
+    }
 }
 
 /// A local search: the set, and the workspace of a candidate.
