@@ -4,16 +4,14 @@ ghost use Rattle.std.specs.Prelude.{◌≡◌, ◌<◌, ◌≤◌, length, IfOk,
 ghost use denote.Param.Send.{IsSync};
 ghost use Rattle.dual_ascent.specs.Shapes.{cells, shape_of, KeepsShape};
 
-use crate::branching::listed;
 use crate::fitting::Fitting;
 use crate::memory::Memory;
 use crate::node::Node;
 use crate::progress::NodeProgress;
-use crate::sets::Sets;
 use ascent_lengths::{Lengths, PassWorkers, copy};
-use dual_ascent::{PassSpace, State};
+use dual_ascent::{PassSpace, State, listed};
 use hub_model::Instance;
-use hub_moves::LocalSearch;
+use hub_moves::{LocalSearch, Sets};
 use search_advice::{Advice, Side};
 use std::alloc::{AllocError, Global};
 use std::marker::Model;

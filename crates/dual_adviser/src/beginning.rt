@@ -4,7 +4,6 @@ ghost use Rattle.dual_ascent.specs.Shapes.{KeepsShape};
 
 use crate::adviser::Adviser;
 use crate::fitting::Manner;
-use crate::sets::note;
 use crate::single::fit_single;
 use ascent_lengths::{PassWorkers, copy, fill, marked};
 use dual_ascent::NO_GAIN;
@@ -46,15 +45,19 @@ impl Adviser {
         ensures { KeepsShape self.old self.new }
     {
         if !self.node.is_root() {
-            if note(&mut self.sets.tries, &self.sets.start) {
-                let _ = self.search_from_start(workers);
+            if self.sets.note_start() {
+                let _ = self
+                    .sets
+                    .improve_start(&mut self.search, &self.lengths, &*workers);
             }
             return Ok(false);
         }
         let ground = Ground::new(&*workers, &self.lengths, &self.sets.movable);
         self.search.begin(&ground, &mut self.sets.start);
-        let _ = note(&mut self.sets.tries, &self.sets.start);
-        let cost = self.search_from_start(workers);
+        let _ = self.sets.note_start();
+        let cost = self
+            .sets
+            .improve_start(&mut self.search, &self.lengths, &*workers);
         self.begin_root(workers, cost);
         if marked(&self.sets.start) == 1 && !self.lengths.tables.has_limit() {
             return self.begin_single(workers, cost);
@@ -84,17 +87,6 @@ impl Adviser {
             self.finish(workers, cost)?;
         }
         Ok(true)
-    }
-
-    /// Improves the start set, and returns its cost.
-    fn search_from_start<R: Threads + Sync>(&mut self, workers: &PassWorkers<'_, R>) -> i128
-        ensures { KeepsShape self.old self.new }
-    {
-        let ground = Ground::new(&*workers, &self.lengths, &self.sets.movable);
-        let cost = self.search.improve(&ground, &self.sets.start);
-        self.sets.offer(&self.lengths, self.search.marks(), cost);
-        copy(self.search.marks(), &mut self.sets.start);
-        cost
     }
 
     /// Starts the root with ramps and caps from the start set, of this cost.

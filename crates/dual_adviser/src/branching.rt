@@ -4,37 +4,15 @@ ghost use Rattle.std.specs.Prelude.{◌≡◌};
 ghost use Rattle.dual_ascent.specs.Shapes.{KeepsShape};
 
 use crate::adviser::Adviser;
-use ascent_lengths::{Lengths, PassWorkers, put, short};
+use ascent_lengths::{PassWorkers, put};
 use dual_ascent::{Trial, Turned};
 use dual_flow::FULL_PRICE;
 use search_advice::Side;
-use std::alloc::{AllocError, Global};
+use std::alloc::AllocError;
 use std::thread::Threads;
 
 /// The number of candidates that are tried.
 const MOST_TRIED: usize = 5;
-/// Trials take this part of the commodities with flow, and at least `LEAST_LISTED`.
-const LISTED_PART: usize = 10;
-
-const LEAST_LISTED: usize = 100;
-
-/// The commodities with the greatest flows, for trials. A scrambled number breaks ties without regard to the order.
-pub(crate) fn listed(alloc: Global, lengths: &Lengths) -> Result<Vec<usize>, AllocError> {
-    let mut all = Vec::with_capacity(alloc, lengths.flowing)?;
-    for c in 0..lengths.commodities() {
-        let flow = lengths.flow(c);
-        if flow > 0 {
-            all.push((flow, short(c).wrapping_mul(2_654_435_761), c))?;
-        }
-    }
-    all.sort_unstable();
-    let count = all.len().div_ceil(LISTED_PART).max(LEAST_LISTED);
-    let mut listed = Vec::with_capacity(alloc, count)?;
-    for (_, _, commodity) in all.iter().rev().take(count) {
-        listed.push(*commodity)?;
-    }
-    Ok(listed)
-}
 
 impl Adviser {
     /// Strong branching: tries candidates on both sides, and chooses the one with the greatest product of rises, each

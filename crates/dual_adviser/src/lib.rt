@@ -14,8 +14,8 @@
 //! the values of the set's hubs. If all duals are tight, the cut's bound with exactly the set's hubs open is the set's
 //! cost. Tight duals have a closed form, and so have those that complete what passes saw of a core of the candidates.
 //!
-//! In the order of reading: `tight` (the tight dual of a commodity), `origins` (those of an origin, as a job of the
-//! worker pool), `fitting` (those of all origins), `single` (the best duals for one hub). Then `sets` (hub sets),
+//! In the order of reading: `origins` (the tight duals of an origin, as a job of the
+//! worker pool), `fitting` (those of all origins), `single` (the best duals for one hub). Then
 //! `node` (penalties, ramps and the core at a node), `progress` (its bounds, and when it is left), `memory` (state to
 //! return to). Last `adviser` (the trait), `beginning`, `rounding` and `branching` (parts of a node).
 #![tactic(auto)]
@@ -29,8 +29,6 @@ mod node;
 mod origins;
 mod progress;
 mod rounding;
-mod sets;
 mod single;
-mod tight;
 
 pub use adviser::Adviser;

@@ -1,10 +1,10 @@
 //! The duals of an origin in closed form. The worker pool shares the origins.
 
 use crate::fitting::{Fitting, Manner};
-use crate::tight::{begin_tight, is_tight};
 use ascent_lengths::{CommodityLengths, Lengths, PlaceValues, copy, put, row, row_mut};
 use claim_board::Job;
 use dual_ascent::{State, Sums};
+use hub_moves::{begin_tight, is_tight};
 use std::alloc::{AllocError, Global};
 
 /// The new prices and values of an origin, and their sums; for a guess, the change of the sums. Only the sums are there

@@ -4,9 +4,7 @@ ghost use Rattle.dual_ascent.specs.Shapes.{KeepsShape};
 
 use crate::adviser::Adviser;
 use crate::fitting::Manner;
-use crate::sets::note;
 use ascent_lengths::PassWorkers;
-use hub_moves::Ground;
 use std::alloc::AllocError;
 use std::thread::Threads;
 
@@ -33,11 +31,10 @@ impl Adviser {
         if !self.node.mark_rounded(&mut self.sets.rounded) {
             return Ok(());
         }
-        if note(&mut self.sets.tries, &self.sets.rounded) {
+        if self.sets.note_rounded() {
             self.node.mark_near(&mut self.sets.movable);
-            let ground = Ground::new(&*workers, &self.lengths, &self.sets.movable);
-            let cost = self.search.improve(&ground, &self.sets.rounded);
-            self.sets.offer(&self.lengths, self.search.marks(), cost);
+            self.sets
+                .improve_rounded(&mut self.search, &self.lengths, &*workers);
         }
         let wanted = wanted.min(self.sets.known);
         if self.progress.bound >= wanted && self.lengths.slack() == 0 {

@@ -13,7 +13,7 @@
 //! Nothing here is exact or trusted. What is proved is that each call ends without a fault, and that lists keep their
 //! lengths.
 //!
-//! In the order of reading: `ramps` (penalties and orders by loads), `waits` (back-off), `sums` (total and loads of
+//! In the order of reading: `waits` (back-off), `sums` (total and loads of
 //! all duals, and their bound), `state` (all duals). Then `steps` (a mix of old values and new) and `origins` (the duals
 //! of one origin). Last `schedule` (the order of the origins), `passes` and `sharing` (a pass by one worker, or by
 //! several), `trials` (what a trial pass of strong branching changes).
@@ -21,7 +21,6 @@
 
 mod origins;
 mod passes;
-mod ramps;
 mod schedule;
 mod sharing;
 mod state;
@@ -32,8 +31,7 @@ mod waits;
 
 pub use origins::OriginTerms;
 pub use passes::PassSpace;
-pub use ramps::{NO_RAMP, NO_TURN, Ramp, Slope, Turn, set_order, set_prices};
 pub use state::{Snapshot, State, Turned};
 pub use sums::Sums;
-pub use trials::Trial;
+pub use trials::{Trial, listed};
 pub use waits::{Gain, NO_GAIN, Quote};

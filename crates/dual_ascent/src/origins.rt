@@ -1,11 +1,12 @@
 //! One origin of a pass: its commodities take their steps one after another.
 
 use crate::passes::Pass;
-use crate::ramps::{NO_TURN, Ramp, Turn, balanced, is_enough, set_order, set_prices};
 use crate::steps::{Steps, mixed};
 use crate::waits::{Gain, NO_GAIN, Quote};
 use ascent_lengths::{CommodityLengths, at, copy, gather, row, row_mut};
-use dual_flow::{BestDual, FULL_PRICE, Priced};
+use dual_flow::{
+    BestDual, FULL_PRICE, NO_TURN, Priced, Ramp, Turn, balanced, is_enough, set_order, set_prices,
+};
 use std::alloc::{AllocError, Global};
 
 /// What a pass reads of a node: a ramp for each place that it sees, an upper bound on each commodity's price, and

@@ -7,7 +7,6 @@
 ghost use Rattle.dual_ascent.specs.Shapes.{KeepsShape};
 
 use crate::origins::{OriginTerms, Stand};
-use crate::ramps::{NO_RAMP, NO_TURN, Ramp, Turn};
 use crate::schedule::{Window, schedule};
 use crate::sharing::better_together;
 use crate::state::State;
@@ -16,6 +15,7 @@ use crate::waits::{Gain, NO_GAIN, Quote};
 use ascent_lengths::{
     LengthTables, Lengths, PassWorkers, add, copy, fill, gather, put, row, row_mut,
 };
+use dual_flow::{NO_RAMP, NO_TURN, Ramp, Turn};
 use std::alloc::{AllocError, Global};
 use std::thread::Threads;
 

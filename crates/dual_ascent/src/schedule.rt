@@ -1,8 +1,8 @@
 //! The order of the origins in a pass, those with the most steps first, and how many are under way at a time.
 
-use crate::ramps::Turn;
 use crate::waits::Quote;
 use ascent_lengths::{Lengths, row, short};
+use dual_flow::Turn;
 
 /// One more origin is under way for each of this many nodes, whatever the workers.
 const NODES_FOR_AN_ORIGIN: usize = 50;

@@ -1,8 +1,7 @@
 //! The step of a commodity: a mix of old values and new ones, by 64ths.
 
-use crate::ramps::Ramp;
 use ascent_lengths::{at, put};
-use dual_flow::FULL_PRICE;
+use dual_flow::{FULL_PRICE, Ramp};
 use std::alloc::{AllocError, Global};
 
 /// The number of parts of a whole step.

@@ -5,8 +5,31 @@ ghost use Rattle.dual_ascent.specs.Shapes.{KeepsShape};
 use crate::state::State;
 use crate::sums::Sums;
 use crate::waits::Quote;
-use ascent_lengths::{copy, row, row_mut};
+use ascent_lengths::{Lengths, copy, row, row_mut, short};
 use std::alloc::{AllocError, Global};
+
+/// Trials take this part of the commodities with flow, and at least `LEAST_LISTED`.
+const LISTED_PART: usize = 10;
+
+const LEAST_LISTED: usize = 100;
+
+/// The commodities with the greatest flows, for trials. A scrambled number breaks ties without regard to the order.
+pub fn listed(alloc: Global, lengths: &Lengths) -> Result<Vec<usize>, AllocError> {
+    let mut all = Vec::with_capacity(alloc, lengths.flowing)?;
+    for c in 0..lengths.commodities() {
+        let flow = lengths.flow(c);
+        if flow > 0 {
+            all.push((flow, short(c).wrapping_mul(2_654_435_761), c))?;
+        }
+    }
+    all.sort_unstable();
+    let count = all.len().div_ceil(LISTED_PART).max(LEAST_LISTED);
+    let mut listed = Vec::with_capacity(alloc, count)?;
+    for (_, _, commodity) in all.iter().rev().take(count) {
+        listed.push(*commodity)?;
+    }
+    Ok(listed)
+}
 
 /// What trials over some listed commodities may change, as it was before: all prices and back-offs, the sums, and the
 /// values of these commodities.

@@ -1,7 +1,9 @@
 //! The hub sets of a node: the best one found, and those that local searches started from.
 
-use ascent_lengths::{Lengths, copy, fill, marked};
+use crate::moves::{Ground, LocalSearch};
+use ascent_lengths::{Lengths, PassWorkers, copy, fill, marked};
 use std::alloc::{AllocError, Global};
+use std::thread::Threads;
 
 /// The greatest number of recorded sets.
 const MOST_TRIES: usize = 4096;
@@ -10,21 +12,28 @@ const MOST_TRIES: usize = 4096;
 /// `known` is the cost of the best set found at any node, `fixed` the fixed cost of the best known set. Costs are in
 /// 10^-12, in the lengths of the heuristic.
 #[derive(Drop)]
-pub(crate) struct Sets {
-    pub(crate) best: Vec<bool>,
-    pub(crate) cost: i128,
-    pub(crate) known: i128,
-    pub(crate) fixed: i128,
-    pub(crate) start: Vec<bool>,
-    pub(crate) rounded: Vec<bool>,
-    pub(crate) movable: Vec<bool>,
+pub struct Sets {
+    /// The best set found at the node.
+    pub best: Vec<bool>,
+    /// Its cost.
+    pub cost: i128,
+    /// The cost of the best set found at any node.
+    pub known: i128,
+    /// The fixed cost of the best known set.
+    pub fixed: i128,
+    /// The start set.
+    pub start: Vec<bool>,
+    /// The last rounded set.
+    pub rounded: Vec<bool>,
+    /// The places that may move.
+    pub movable: Vec<bool>,
     // The sets that local searches started from, as bits.
-    pub(crate) tries: Vec<[u64; 4]>,
+    tries: Vec<[u64; 4]>,
 }
 
 impl Sets {
     /// No sets, over this many places.
-    pub(crate) fn new(alloc: Global, places: usize) -> Result<Sets, AllocError> {
+    pub fn new(alloc: Global, places: usize) -> Result<Sets, AllocError> {
         Ok(Sets {
             best: vec![in alloc; false; places]?,
             cost: i128::MAX,
@@ -38,7 +47,7 @@ impl Sets {
     }
 
     /// Starts a node, where these hubs are the best known. With `--max-length` a set found before may be infeasible.
-    pub(crate) fn begin(&mut self, lengths: &Lengths, hubs: &[bool]) {
+    pub fn begin(&mut self, lengths: &Lengths, hubs: &[bool]) {
         fill(&mut self.best, false);
         self.cost = i128::MAX;
         if lengths.tables.has_limit() {
@@ -48,7 +57,7 @@ impl Sets {
     }
 
     /// Takes the set as the best, if it costs less and has the required number of hubs.
-    pub(crate) fn offer(&mut self, lengths: &Lengths, marks: &[bool], cost: i128) {
+    pub fn offer(&mut self, lengths: &Lengths, marks: &[bool], cost: i128) {
         let fits = lengths.wanted.is_none_or(|hubs| marked(marks) == hubs);
         if fits && cost < self.cost {
             self.cost = cost;
@@ -58,9 +67,45 @@ impl Sets {
         }
     }
 
+    /// Records the start set, and returns whether it is new.
+    pub fn note_start(&mut self) -> bool {
+        note(&mut self.tries, &self.start)
+    }
+
+    /// Records the rounded set, and returns whether it is new.
+    pub fn note_rounded(&mut self) -> bool {
+        note(&mut self.tries, &self.rounded)
+    }
+
+    /// Improves the start set by local search, offers the result, and starts from it next. Returns its cost.
+    pub fn improve_start<R: Threads + Sync>(
+        &mut self,
+        search: &mut LocalSearch,
+        lengths: &Lengths,
+        workers: &PassWorkers<'_, R>,
+    ) -> i128 {
+        let ground = Ground::new(workers, lengths, &self.movable);
+        let cost = search.improve(&ground, &self.start);
+        self.offer(lengths, search.marks(), cost);
+        copy(search.marks(), &mut self.start);
+        cost
+    }
+
+    /// Improves the rounded set by local search, and offers the result.
+    pub fn improve_rounded<R: Threads + Sync>(
+        &mut self,
+        search: &mut LocalSearch,
+        lengths: &Lengths,
+        workers: &PassWorkers<'_, R>,
+    ) {
+        let ground = Ground::new(workers, lengths, &self.movable);
+        let cost = search.improve(&ground, &self.rounded);
+        self.offer(lengths, search.marks(), cost);
+    }
+
     /// The scale of gaps, for a best known set of this cost: the cost, or eight times its fixed costs, if these are a
     /// small part of it.
-    pub(crate) fn scale(&self, lengths: &Lengths, cost: i128) -> i128 {
+    pub fn scale(&self, lengths: &Lengths, cost: i128) -> i128 {
         if lengths.wanted.is_some() {
             return cost.max(1);
         }
@@ -72,7 +117,7 @@ impl Sets {
 
 /// Records the marked set, as bits of up to 256 places, and returns whether it is new. Where memory runs out it is not
 /// recorded.
-pub(crate) fn note(tries: &mut Vec<[u64; 4]>, marks: &[bool]) -> bool {
+fn note(tries: &mut Vec<[u64; 4]>, marks: &[bool]) -> bool {
     let mut words = [0u64; 4];
     for (k, mark) in marks.iter().enumerate() {
         if *mark && k < 256 {

@@ -1,11 +1,11 @@
 //! The dual of a commodity that is tight at a hub set.
 
+use crate::routes::SetRoutes;
 use ascent_lengths::{CommodityLengths, Lengths, PlaceValues, at};
-use hub_moves::SetRoutes;
 
 /// Returns whether a commodity's dual is tight at the set: its price is the length of the shortest route plus the
 /// values of the hubs.
-pub(crate) fn is_tight(
+pub fn is_tight(
     routes: &SetRoutes,
     lengths: &Lengths,
     from: [usize; 2],
@@ -22,7 +22,7 @@ pub(crate) fn is_tight(
 /// Sets the values that are tight at the set and closest to these, and returns the price. The values of the shortest
 /// route's hubs are at most what the routes without them allow. Places outside the set keep their values. Where
 /// lengths are rounded, those that get values later get a little more.
-pub(crate) fn begin_tight(
+pub fn begin_tight(
     routes: &SetRoutes,
     lengths: &Lengths,
     from: [usize; 2],
